@@ -1,0 +1,9 @@
+pub mod Places
+pub mod Members
+pub mod Parts
+pub mod LowestMember
+pub mod Table
+pub mod Walk
+pub mod Ordering
+pub mod Counting
+pub mod Considering

@@ -1,0 +1,68 @@
+-- The lowest member of a set is a member, and none is below it; a set without one of its members is smaller by one. Assumes nothing.
+use mathlib.Core.Path.{_≡_, refl, sym, _∙_, ap, subst}
+use mathlib.Core.Bool.{true, false}
+use mathlib.Core.Logic.{_⊎_, inl, inr}
+use Prim.Native.Nat.{ℕ, zero, suc, _+_, _/_, _%_, _^_, _<_}
+use native.Mathlib.Nat.{pow-suc, le-of-suc-le-suc}
+use native.Mathlib.Decide.{ℕ-discrete}
+use native.Mathlib.Omega.{arith}
+use lib.Count.{trailingZeros, under, trailing-le}
+use lib.Dec.{eqb}
+use lib.Pow.{pow-lt}
+use borrow.Author.Tests.{eqb-true, eq-eqb}
+use Rattle.sets.specs.Sets.{places, has, single, remove, within, size, lowest}
+use Rattle.sets.proofs.Members.{has-zero, has-suc, has-single, single-is}
+use Rattle.sets.proofs.Parts.{size-count, size-rest, has-within}
+use Rattle.sets.proofs.Places.{count-alone}
+
+odd-or-even : (n : ℕ) → (n % 2 ≡ 0) ⊎ (n % 2 ≡ 1)
+odd-or-even n = elim (ℕ-discrete (n % 2) 0) [ yes e ↦ inl e | no e ↦ inr (omega arith) ]
+
+trailing-step : (n t d : ℕ) → t % 2 ≡ d → trailingZeros (suc n) t ≡ under d (trailingZeros n (t / 2))
+unfolding trailingZeros
+trailing-step n t d e = ap (λ (x : ℕ). under x (trailingZeros n (t / 2))) e
+
+has-low : (t d : ℕ) → t % 2 ≡ d → has t 0 ≡ eqb d 1
+has-low t d e = has-zero t ∙ ap (λ (x : ℕ). eqb x 1) e
+
+trailing-in : (n t : ℕ) → 0 < t → t < 2 ^ n → (trailingZeros n t < n) × (has t (trailingZeros n t) ≡ true)
+trailing-in zero t h k = absurd (omega arith)
+trailing-in (suc n) t h k = go (trailing-in n (t / 2)) (odd-or-even t)
+  where
+    go : (0 < t / 2 → t / 2 < 2 ^ n → (trailingZeros n (t / 2) < n) × (has (t / 2) (trailingZeros n (t / 2)) ≡ true)) → (t % 2 ≡ 0) ⊎ (t % 2 ≡ 1)
+        → (trailingZeros (suc n) t < suc n) × (has t (trailingZeros (suc n) t) ≡ true)
+    go ih (inl e) =
+        let w = ih (omega arith) (omega (arith, pow-suc 2 n)) in
+        (omega (arith, trailing-step n t 0 e, w .0), ap (has t) (trailing-step n t 0 e) ∙ has-suc t (trailingZeros n (t / 2)) ∙ w .1)
+    go ih (inr e) = (omega (arith, trailing-step n t 1 e), ap (has t) (trailing-step n t 1 e) ∙ has-low t 1 e)
+
+trailing-none : (n t i : ℕ) → i < trailingZeros n t → has t i ≡ false
+trailing-none zero t i h = absurd (omega (arith, trailing-le 0 t))
+trailing-none (suc n) t i h = go i h (λ (j : ℕ). trailing-none n (t / 2) j) (odd-or-even t)
+  where
+    go : (j : ℕ) → j < trailingZeros (suc n) t → ((m : ℕ) → m < trailingZeros n (t / 2) → has (t / 2) m ≡ false) → (t % 2 ≡ 0) ⊎ (t % 2 ≡ 1) → has t j ≡ false
+    go j l ih (inr e) = absurd (omega (arith, trailing-step n t 1 e))
+    go zero l ih (inl e) = has-low t 0 e
+    go (suc j) l ih (inl e) = has-suc t j ∙ ih j (le-of-suc-le-suc (subst (λ (x : ℕ). suc j < x) (trailing-step n t 0 e) l))
+
+pub lowest-in : (s : ℕ) → 0 < s → s < 2 ^ places → (lowest s < places) × (has s (lowest s) ≡ true)
+unfolding lowest
+lowest-in s h k = trailing-in places s h k
+
+pub lowest-least : (s i : ℕ) → i < lowest s → has s i ≡ false
+unfolding lowest
+lowest-least s i h = trailing-none places s i h
+
+size-single : (i : ℕ) → i < places → size (single i) ≡ 1
+size-single i l =
+    size-count places (single i) (omega (arith, single-is i l, pow-lt l))
+    ∙ count-alone places (has (single i)) i l (has-single i i l ∙ eq-eqb i i refl) (λ j jl e. sym (eqb-true i j (sym (has-single i j l) ∙ e)))
+
+pub size-remove : (s i : ℕ) → i < places → has s i ≡ true → size (remove s i) + 1 ≡ size s
+unfolding remove
+size-remove s i l e = omega (arith, size-single i l, size-rest s (single i) inside)
+  where
+    inside : within (single i) s ≡ true
+    inside =
+        has-within places (single i) s (omega (arith, single-is i l, pow-lt l))
+        (λ j jl f. ap (has s) (sym (eqb-true i j (sym (has-single i j l) ∙ f))) ∙ e)

@@ -1,0 +1,222 @@
+-- Laws of membership: each follows from the lowest digit of the set's number and from its half. They hold at any width. Assumes nothing.
+use mathlib.Core.Path.{_≡_, refl, sym, _∙_, ap, ap₂}
+use mathlib.Core.Bool.{Bool, true, false, cond, not, _&&_, _||_, false≢true}
+use mathlib.Core.Logic.{_⊎_, inl, inr}
+use Prim.Native.Nat.{ℕ, zero, suc, _+_, _*_, _-_, _/_, _%_, _^_, _≤_, _<_, min, max}
+use native.Mathlib.Nat.{div-one, div-eq-of-lt, div-div-eq-div-mul, pow-succ', pow-suc, le-antisymm, mod-eq-of-lt, mul-mod-right, one-mul}
+use native.Mathlib.Decide.{decLe, ℕ-discrete}
+use native.Mathlib.Omega.{arith}
+use lib.Arith.{lt-one}
+use lib.Bits.{bitAnd, bitOr, and-step, or-step, and-shr, or-shr, and-le-l}
+use lib.Dec.{eqb, eqb·zero-suc, eqb·suc-zero, eqb·suc-suc}
+use lib.Pow.{pow-add, pow-pos, pow-mono, pow-lt}
+use borrow.Author.Tests.{eqb-true, eq-eqb, ne-eqb, not-true, not-false}
+use Rattle.sets.specs.Sets.{Set, places, has, single, insert, rest, remove, Sub}
+use Rattle.sets.proofs.Places.{fails-at}
+
+-- ---- the lowest digit and the half
+
+pub has-zero : (s : ℕ) → has s 0 ≡ eqb (s % 2) 1
+unfolding has
+has-zero s = rw div-one
+
+pub has-suc : (s i : ℕ) → has s (suc i) ≡ has (s / 2) i
+unfolding has
+has-suc s i = rw (pow-succ', ← div-div-eq-div-mul)
+
+pub has-first : (s : ℕ) → has s 0 ≡ true → s % 2 ≡ 1
+has-first s h = eqb-true (s % 2) 1 (sym (has-zero s) ∙ h)
+
+pub first-has : (s : ℕ) → s % 2 ≡ 1 → has s 0 ≡ true
+first-has s h = has-zero s ∙ eq-eqb (s % 2) 1 h
+
+pub first-no : (s : ℕ) → s % 2 ≡ 0 → has s 0 ≡ false
+first-no s h = has-zero s ∙ ne-eqb (s % 2) 1 (λ e. omega arith)
+
+-- What holds of each pair of digits.
+digits : (P : ℕ → ℕ → Type 0) → P 0 0 → P 0 1 → P 1 0 → P 1 1 → (x y : ℕ) → x < 2 → y < 2 → P x y
+digits P a b c d zero zero hx hy = a
+digits P a b c d zero (suc zero) hx hy = b
+digits P a b c d zero (suc (suc y)) hx hy = absurd (omega arith)
+digits P a b c d (suc zero) zero hx hy = c
+digits P a b c d (suc zero) (suc zero) hx hy = d
+digits P a b c d (suc zero) (suc (suc y)) hx hy = absurd (omega arith)
+digits P a b c d (suc (suc x)) y hx hy = absurd (omega arith)
+
+digit : (n : ℕ) → n % 2 < 2
+digit n = omega arith
+
+-- ---- operations that work digit by digit, by f at each
+
+module _ (op : ℕ → ℕ → ℕ) (g : ℕ → ℕ → ℕ) (f : Bool → Bool → Bool)
+    (half : (a b : ℕ) → op a b / 2 ≡ op (a / 2) (b / 2)) (odd : (a b : ℕ) → op a b % 2 ≡ g (a % 2) (b % 2))
+    (low : (x y : ℕ) → x < 2 → y < 2 → eqb (g x y) 1 ≡ f (eqb x 1) (eqb y 1))
+  where
+    has-op : (i a b : ℕ) → has (op a b) i ≡ f (has a i) (has b i)
+    has-op zero a b =
+        has-zero (op a b) ∙ ap (λ (x : ℕ). eqb x 1) (odd a b) ∙ low (a % 2) (b % 2) (digit a) (digit b) ∙ ap₂ f (sym (has-zero a)) (sym (has-zero b))
+    has-op (suc i) a b =
+        has-suc (op a b) i ∙ ap (λ (x : ℕ). has x i) (half a b) ∙ has-op i (a / 2) (b / 2) ∙ ap₂ f (sym (has-suc a i)) (sym (has-suc b i))
+
+pub and-half : (a b : ℕ) → bitAnd a b / 2 ≡ bitAnd (a / 2) (b / 2)
+and-half a b = and-shr a b 1
+
+pub and-odd : (a b : ℕ) → bitAnd a b % 2 ≡ min (a % 2) (b % 2)
+and-odd a b = omega (arith, and-step a b)
+
+pub has-and : (i a b : ℕ) → has (bitAnd a b) i ≡ (has a i && has b i)
+has-and = has-op bitAnd min _&&_ and-half and-odd (digits (λ x y. eqb (min x y) 1 ≡ (eqb x 1 && eqb y 1)) refl refl refl refl)
+
+or-half : (a b : ℕ) → bitOr a b / 2 ≡ bitOr (a / 2) (b / 2)
+or-half a b = or-shr a b 1
+
+or-odd : (a b : ℕ) → bitOr a b % 2 ≡ max (a % 2) (b % 2)
+or-odd a b = omega (arith, or-step a b)
+
+pub has-or : (i a b : ℕ) → has (bitOr a b) i ≡ (has a i || has b i)
+has-or = has-op bitOr max _||_ or-half or-odd (digits (λ x y. eqb (max x y) 1 ≡ (eqb x 1 || eqb y 1)) refl refl refl refl)
+
+rest-step : (a b : ℕ) → rest a b ≡ rest (a / 2) (b / 2) * 2 + (a % 2 - min (a % 2) (b % 2))
+unfolding rest
+rest-step a b = omega (arith, and-step a b, and-le-l (a / 2) (b / 2))
+
+pub rest-half : (a b : ℕ) → rest a b / 2 ≡ rest (a / 2) (b / 2)
+rest-half a b = omega (arith, rest-step a b)
+
+pub rest-odd : (a b : ℕ) → rest a b % 2 ≡ a % 2 - min (a % 2) (b % 2)
+rest-odd a b = omega (arith, rest-step a b)
+
+pub has-rest : (i a b : ℕ) → has (rest a b) i ≡ (has a i && not (has b i))
+has-rest =
+    has-op rest (λ x y. x - min x y) (λ x y. x && not y) rest-half rest-odd
+    (digits (λ x y. eqb (x - min x y) 1 ≡ (eqb x 1 && not (eqb y 1))) refl refl refl refl)
+
+-- `a & !b`, where `!b` is taken in k bits.
+pub and-not : (k a b : ℕ) → a < 2 ^ k → b < 2 ^ k → bitAnd a ((2 ^ k - 1) - b) ≡ rest a b
+unfolding rest
+and-not zero a b ha hb = ap (λ (x : ℕ). bitAnd x (0 - b)) (lt-one ha) ∙ ap (λ (x : ℕ). rest x b) (sym (lt-one ha))
+and-not (suc k) a b ha hb =
+    let m = (2 ^ suc k - 1) - b in
+    let half : m / 2 ≡ (2 ^ k - 1) - b / 2 = omega (arith, pow-suc 2 k) in
+    let odd : m % 2 ≡ 1 - b % 2 = omega (arith, pow-suc 2 k) in
+    let ih = and-not k (a / 2) (b / 2) (omega (arith, pow-suc 2 k)) (omega (arith, pow-suc 2 k)) in
+    and-step a m
+    ∙ ap₂ (λ (x y : ℕ). x * 2 + min (a % 2) y) (ap (bitAnd (a / 2)) half ∙ ih) odd
+    ∙ ap (λ (x : ℕ). rest (a / 2) (b / 2) * 2 + x) (digits (λ x y. min x (1 - y) ≡ x - min x y) refl refl refl refl (a % 2) (b % 2) (digit a) (digit b))
+    ∙ sym (rest-step a b)
+
+-- ---- particular sets
+
+pub has-none : (i : ℕ) → has 0 i ≡ false
+has-none zero = first-no 0 refl
+has-none (suc i) = has-suc 0 i ∙ has-none i
+
+-- No job at k or past it.
+pub has-high : (k s i : ℕ) → s < 2 ^ k → k ≤ i → has s i ≡ false
+unfolding has
+has-high k s i b h = let l : s < 2 ^ i = omega (arith, pow-mono h) in rw (div-eq-of-lt l)
+
+-- A member of a set of k jobs is one of them.
+pub member-lt : (k s i : ℕ) → s < 2 ^ k → has s i ≡ true → i < k
+member-lt k s i b e = elim (decLe (suc i) k) [ yes g ↦ g | no g ↦ absurd (false≢true (sym (has-high k s i b (omega arith)) ∙ e)) ]
+
+pub has-full : (n i : ℕ) → i < n → has (2 ^ n - 1) i ≡ true
+has-full zero i l = absurd (omega arith)
+has-full (suc n) zero l = first-has (2 ^ suc n - 1) (omega (arith, pow-pos n))
+has-full (suc n) (suc i) l =
+    let half : (2 ^ suc n - 1) / 2 ≡ 2 ^ n - 1 = omega (arith, pow-pos n) in
+    has-suc (2 ^ suc n - 1) i ∙ ap (λ (x : ℕ). has x i) half ∙ has-full n i (omega arith)
+
+has-power : (i j : ℕ) → has (2 ^ i) j ≡ eqb i j
+has-power zero zero = has-zero 1
+has-power zero (suc j) = has-suc 1 j ∙ has-none j ∙ sym (eqb·zero-suc j)
+has-power (suc i) zero =
+    let even : 2 ^ suc i % 2 ≡ 0 = omega (arith, pow-suc 2 i) in
+    has-zero (2 ^ suc i) ∙ ap (λ (x : ℕ). eqb x 1) even ∙ sym (eqb·suc-zero i)
+has-power (suc i) (suc j) =
+    let half : 2 ^ suc i / 2 ≡ 2 ^ i = omega (arith, pow-suc 2 i) in
+    has-suc (2 ^ suc i) j ∙ ap (λ (x : ℕ). has x j) half ∙ has-power i j ∙ sym (eqb·suc-suc i j)
+
+-- The set of one job below the number of places.
+pub single-is : (i : ℕ) → i < places → single i ≡ 2 ^ i
+unfolding single
+single-is i l = mod-eq-of-lt (pow-lt l)
+
+-- Past them it is empty.
+pub single-past : (i : ℕ) → places ≤ i → single i ≡ 0
+unfolding single
+single-past i l =
+    let e : i ≡ places + (i - places) = omega arith in
+    ap (λ (k : ℕ). 2 ^ k % 2 ^ places) e ∙ rw (pow-add 2 places (i - places)) (mul-mod-right (2 ^ places) (2 ^ (i - places)))
+
+-- 1 shifted by a place below the last.
+pub shifted : (i : ℕ) → i < places → 1 * 2 ^ i % 2 ^ places ≡ 2 ^ i
+unfolding single
+shifted i l = rw one-mul (single-is i l)
+
+pub has-single : (i j : ℕ) → i < places → has (single i) j ≡ eqb i j
+has-single i j l = ap (λ (x : ℕ). has x j) (single-is i l) ∙ has-power i j
+
+pub has-insert : (s i j : ℕ) → i < places → has (insert s i) j ≡ (has s j || eqb i j)
+unfolding insert
+has-insert s i j l = has-or j s (single i) ∙ ap (λ (b : Bool). has s j || b) (has-single i j l)
+
+pub has-remove : (s i j : ℕ) → i < places → has (remove s i) j ≡ (has s j && not (eqb i j))
+unfolding remove
+has-remove s i j l = has-rest j s (single i) ∙ ap (λ (b : Bool). has s j && not b) (has-single i j l)
+
+-- ---- numbers and members
+
+pub halves : (n r s : ℕ) → Sub (suc n) (has s) (has r) → Sub n (has (s / 2)) (has (r / 2))
+halves n r s h i l e = sym (has-suc r i) ∙ h (suc i) (omega arith) (has-suc s i ∙ e)
+
+pub sub-le : (n r s : ℕ) → s < 2 ^ n → Sub n (has s) (has r) → s ≤ r
+sub-le zero r s b h = omega arith
+sub-le (suc n) r s b h = omega (arith, sub-le n (r / 2) (s / 2) (omega arith) (halves n r s h), low)
+  where
+    low : s % 2 ≤ r % 2
+    low = elim (ℕ-discrete (s % 2) 1) [ yes e ↦ omega (arith, has-first r (h 0 (omega arith) (first-has s e))) | no e ↦ omega arith ]
+
+-- Two numbers with the same members are the same.
+pub has-same : (n r s : ℕ) → r < 2 ^ n → s < 2 ^ n → Sub n (has r) (has s) → Sub n (has s) (has r) → r ≡ s
+has-same n r s br bs h g = le-antisymm (sub-le n s r br h) (sub-le n r s bs g)
+
+pub has-pos : (s i : ℕ) → has s i ≡ true → 0 < s
+has-pos s i h = elim (ℕ-discrete s 0) [
+  | yes e ↦ absurd (false≢true (sym (has-none i) ∙ ap (λ (x : ℕ). has x i) (sym e) ∙ h))
+  | no e ↦ omega arith
+]
+
+-- A number above 0 has a member.
+pub has-some : (n s : ℕ) → s < 2 ^ n → 0 < s → (i : ℕ) × (i < n) × (has s i ≡ true)
+has-some n s b p = go (fails-at (λ i. not (has s i)) n)
+  where
+    go : ((i : ℕ) → i < n → not (has s i) ≡ true) ⊎ ((i : ℕ) × (i < n) × (not (has s i) ≡ false)) → (i : ℕ) × (i < n) × (has s i ≡ true)
+    go (inl h) = absurd (omega (arith, sub-le n 0 s b (λ i l e. absurd (false≢true (sym (not-true (has s i) (h i l)) ∙ e)))))
+    go (inr w) = (w .0, w .1, not-false (has s (w .0)) (w .2))
+
+-- The number of a set of n places.
+pub number : Set → ℕ → ℕ
+number s zero = 0
+number s (suc n) = cond (s 0) 1 0 + 2 * number (λ i. s (suc i)) n
+
+bit : (b : Bool) → cond b 1 0 ≤ 1
+bit true = omega arith
+bit false = omega arith
+
+pub number-lt : (s : Set) (n : ℕ) → number s n < 2 ^ n
+unfolding number
+number-lt s zero = omega arith
+number-lt s (suc n) = omega (arith, bit (s 0), number-lt (λ i. s (suc i)) n)
+
+pub has-number : (s : Set) (n i : ℕ) → i < n → has (number s n) i ≡ s i
+unfolding number
+has-number s zero i l = absurd (omega arith)
+has-number s (suc n) zero l = go (s 0) (number (λ i. s (suc i)) n)
+  where
+    go : (b : Bool) (m : ℕ) → has (cond b 1 0 + 2 * m) 0 ≡ b
+    go true m = first-has (1 + 2 * m) (omega arith)
+    go false m = first-no (0 + 2 * m) (omega arith)
+has-number s (suc n) (suc i) l =
+    let half : (cond (s 0) 1 0 + 2 * number (λ i. s (suc i)) n) / 2 ≡ number (λ i. s (suc i)) n = omega (arith, bit (s 0)) in
+    has-suc (cond (s 0) 1 0 + 2 * number (λ i. s (suc i)) n) i ∙ ap (λ (x : ℕ). has x i) half ∙ has-number (λ i. s (suc i)) n i (omega arith)

@@ -1,0 +1,11 @@
+use mathlib.Core.Path.{refl}
+use Rattle.sets.specs.Sets.{size}
+use Rattle.sets.proofs.size.Statement.{statement}
+use Rattle.sets.proofs.size.Tie as tie
+
+returns : tie.Need-returns
+unfolding size
+returns c = refl
+
+pub size-spec : {M : Type 1} → statement M
+size-spec = tie.close (tie.spec returns)

@@ -1,0 +1,21 @@
+-- Tests and sums over places. A place is a job's position in its list, from 0. Assumes nothing.
+use Prim.Native.Nat.{ℕ, zero, suc, _+_}
+use mathlib.Core.Bool.{Bool, true, cond, _&&_}
+
+-- The test passes at each place below n.
+unfoldable pub every : (ℕ → Bool) → ℕ → Bool
+every test zero = true
+every test (suc n) = every test n && test n
+
+-- The sum of f over the places below n.
+unfoldable pub sum : (ℕ → ℕ) → ℕ → ℕ
+sum f zero = 0
+sum f (suc n) = sum f n + f n
+
+-- The sum of f over the places below n that are in the set.
+unfoldable pub sumOver : ℕ → (ℕ → Bool) → (ℕ → ℕ) → ℕ
+sumOver n set f = sum (λ i. cond (set i) (f i) 0) n
+
+-- The number of places below n that are in the set.
+unfoldable pub count : ℕ → (ℕ → Bool) → ℕ
+count n set = sumOver n set (λ i. 1)
