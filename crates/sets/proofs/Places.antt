@@ -46,6 +46,10 @@ pub every-on : (test : Set) (i : ℕ) → every test i ≡ true → test i ≡ t
 unfolding every
 every-on test i e f = rw (add-one i, e, f)
 
+-- The loop ends at n.
+pub every-end : (test : Set) {n i : ℕ} → i ≤ n → n ≤ i → every test i ≡ true → every test n ≡ true
+every-end test {n} {i} l h e = let g : n ≡ i = omega arith in ap (every test) g ∙ e
+
 -- A test passes at each place, or fails at one.
 pub fails-at : (test : Set) (n : ℕ) → ((i : ℕ) → i < n → test i ≡ true) ⊎ ((i : ℕ) × (i < n) × (test i ≡ false))
 fails-at test zero = inl (λ i l. absurd (omega arith))

@@ -1,0 +1,77 @@
+-- The edges of 01 that concern job blocks and ranges, and two faults at once: one table, one computed statement. Assumes nothing.
+use Prim.Native.Nat.{ℕ}
+use mathlib.Core.Path.{_≡_, refl}
+use mathlib.Core.Bool.{Bool, true, false, _&&_}
+use mathlib.Core.List.{List, [], _∷_, _++_}
+use lib.Dec.{eqb}
+use Rattle.sets.specs.Places.{every}
+use Rattle.records.specs.Records.{wordBytes, chunks}
+use Rattle.records.specs.Refusals.{Answer, refused, given, answer}
+use Rattle.records.specs.Jobs.{jobOf, timesOk, readJobs}
+use Rattle.records.specs.Ranges.{rangeTests}
+
+-- The bytes of a record: id, second byte, C, T and D.
+pub row : ℕ → ℕ → ℕ → ℕ → ℕ → List ℕ
+row id second cost period deadline = id ∷ second ∷ (wordBytes cost ++ (wordBytes period ++ wordBytes deadline))
+
+-- A case: what a call was asked, in 01's numbers and values, and what it is to answer; a range is answered by 0.
+pub data Case : Type 0 where
+  block : List ℕ → Answer ℕ → Case
+  range : ℕ → ℕ → Answer ℕ → Case
+
+pub agree : Answer ℕ → Answer ℕ → Bool
+agree (refused a) (refused b) = eqb a b
+agree (refused a) (given b) = false
+agree (given a) (refused b) = false
+agree (given a) (given b) = eqb a b
+
+pub right : Case → Bool
+right (block s a) = agree (readJobs s .0) a
+right (range low high a) = agree (answer (rangeTests low high) 0) a
+
+pub all : List Case → Bool
+all [] = true
+all (c ∷ cases) = right c && all cases
+
+pub eight : List ℕ
+eight =
+    row 1 0 1 9 9 ++ (row 2 0 1 9 9 ++ (row 3 0 1 9 9 ++ (row 4 0 1 9 9 ++ (row 5 0 1 9 9 ++ (row 6 0 1 9 9 ++ (row 7 0 1 9 9 ++ row 255 0 1 9 9))))))
+
+pub cases : List Case
+cases =
+    -- the longest period
+    block (row 1 0 1 60000 60000) (given 1)
+    ∷ block (row 1 0 1 60001 60000) (refused 5)
+    -- C, D and T
+    ∷ block (row 1 0 5 9 5) (given 1)
+    ∷ block (row 1 0 6 9 5) (refused 5)
+    ∷ block (row 1 0 5 9 9) (given 1)
+    ∷ block (row 1 0 5 9 10) (refused 5)
+    ∷ block (row 1 0 0 9 9) (refused 5)
+    -- the size of the block
+    ∷ block [] (refused 1)
+    ∷ block (1 ∷ 0 ∷ 0 ∷ 1 ∷ 0 ∷ 9 ∷ 0 ∷ []) (refused 1)
+    ∷ block eight (given 8)
+    ∷ block (eight ++ row 9 0 1 9 9) (refused 1)
+    -- ids
+    ∷ block (row 3 0 1 9 9 ++ row 3 0 1 9 9) (refused 3)
+    ∷ block (row 3 0 1 9 9 ++ row 2 0 1 9 9) (refused 3)
+    ∷ block (row 0 0 1 9 9) (refused 2)
+    ∷ block (row 1 7 1 9 9) (refused 2)
+    -- two faults at once: in one record, and in different ones
+    ∷ block (row 0 0 0 9 9) (refused 2)
+    ∷ block (row 3 0 0 9 9 ++ row 3 0 1 9 9) (refused 3)
+    ∷ block (row 3 0 1 60001 9 ++ (row 2 0 1 9 9 ++ row 4 1 1 9 9)) (refused 2)
+    ∷ block (row 3 0 1 9 9 ++ (row 2 0 1 9 9 ++ row 0 0 1 9 9)) (refused 2)
+    ∷ block (row 0 0 0 9 9 ++ (1 ∷ [])) (refused 1)
+    -- the range of quanta
+    ∷ range 1 64 (given 0)
+    ∷ range 64 64 (given 0)
+    ∷ range 1 65 (refused 6)
+    ∷ range 0 4 (refused 6)
+    ∷ range 5 4 (refused 6)
+    ∷ []
+
+pub edges : all cases ≡ true
+unfolding row agree right all eight cases every wordBytes chunks jobOf timesOk readJobs
+edges = refl

@@ -1,0 +1,9 @@
+pub mod Outcomes
+pub mod FixedWidth
+pub mod JobRecords
+pub mod JobTests
+pub mod RoundTrip
+pub mod Equality
+pub mod RefusalNumbers
+pub mod Reading
+pub mod Edges

@@ -1,0 +1,92 @@
+-- Laws of the outcome of a call by its tests. Assumes nothing.
+use Prim.Native.Nat.{ℕ}
+use mathlib.Core.Path.{_≡_, refl, sym, ap, _∙_}
+use mathlib.Core.List.{[], _∷_, _++_}
+use mathlib.Core.Bool.{Bool, true, false, cond}
+use native.Mathlib.Omega.{arith}
+use Rattle.records.specs.Refusals.{Answer, refused, given, number, Tests, outcome, answer, verdict, turned, Accepts}
+use Rattle.records.specs.declared.refusal.Refusal.{Refusal}
+use Rattle.records.specs.declared.refusal.Verdict.{Verdict}
+use Rattle.records.specs.declared.refusal.Verdict.the-variants.{Accepted, Turned}
+
+-- ---- tests after tests: the first ones refuse, or the others decide
+
+module _ {A B C D : Type 0} (values : A) (new old : B) (values′ : C) (new′ old′ : D) (later : Tests) where
+  pub stops : (tests : Tests) (k : ℕ) → outcome tests values new old .0 ≡ refused k → outcome (tests ++ later) values′ new′ old′ ≡ (refused k, old′)
+  stops [] k e = absurd (let z : _≡_ {A = ℕ} 0 1 = cc in omega arith)
+  stops (t ∷ tests) k e = go (t .0) (stops tests k) e
+    where
+      go : (b : Bool) → (outcome tests values new old .0 ≡ refused k → outcome (tests ++ later) values′ new′ old′ ≡ (refused k, old′))
+          → cond b (outcome tests values new old) (refused (t .1), old) .0 ≡ refused k
+          → cond b (outcome (tests ++ later) values′ new′ old′) (refused (t .1), old′) ≡ (refused k, old′)
+      go true ih e′ = ih e′
+      go false ih e′ = let f : t .1 ≡ k = cc in rw f
+
+  pub goes-on : (tests : Tests) (a : A) → outcome tests values new old .0 ≡ given a → outcome (tests ++ later) values′ new′ old′ ≡ outcome later values′ new′ old′
+  goes-on [] a e = refl
+  goes-on (t ∷ tests) a e = go (t .0) (goes-on tests a) e
+    where
+      go : (b : Bool) → (outcome tests values new old .0 ≡ given a → outcome (tests ++ later) values′ new′ old′ ≡ outcome later values′ new′ old′)
+          → cond b (outcome tests values new old) (refused (t .1), old) .0 ≡ given a
+          → cond b (outcome (tests ++ later) values′ new′ old′) (refused (t .1), old′) ≡ outcome later values′ new′ old′
+      go true ih e′ = ih e′
+      go false ih e′ = absurd (let z : _≡_ {A = ℕ} 0 1 = cc in omega arith)
+
+-- ---- values are given exactly if every test holds
+
+module _ {A B : Type 0} (values : A) (new old : B) where
+  pub accepted : (tests : Tests) (a : A) → outcome tests values new old .0 ≡ given a → Accepts tests
+  accepted [] a e = tt
+  accepted (t ∷ tests) a e = go (t .0) refl (accepted tests a) e
+    where
+      go : (b : Bool) → t .0 ≡ b → (outcome tests values new old .0 ≡ given a → Accepts tests)
+          → cond b (outcome tests values new old) (refused (t .1), old) .0 ≡ given a → (t .0 ≡ true) × Accepts tests
+      go true f ih e′ = (f, ih e′)
+      go false f ih e′ = absurd (let z : _≡_ {A = ℕ} 0 1 = cc in omega arith)
+
+  pub accepts : (tests : Tests) → Accepts tests → outcome tests values new old ≡ (given values, new)
+  accepts [] h = refl
+  accepts (t ∷ tests) h = rw (h .0) (accepts tests (h .1))
+
+  -- A refusal changes nothing lent.
+  pub keeps : (tests : Tests) (k : ℕ) → outcome tests values new old .0 ≡ refused k → outcome tests values new old .1 ≡ old
+  keeps [] k e = absurd (let z : _≡_ {A = ℕ} 0 1 = cc in omega arith)
+  keeps (t ∷ tests) k e = go (t .0) (keeps tests k) e
+    where
+      go : (b : Bool) → (outcome tests values new old .0 ≡ refused k → outcome tests values new old .1 ≡ old)
+          → cond b (outcome tests values new old) (refused (t .1), old) .0 ≡ refused k → cond b (outcome tests values new old) (refused (t .1), old) .1 ≡ old
+      go true ih e′ = ih e′
+      go false ih e′ = refl
+
+-- A call that gives a: every test holds, a is the value defined, and the memory is the new one.
+pub gives : {A B : Type 0} (tests : Tests) (values : A) (new old : B) (got : Answer A × B) (a : A) → got ≡ outcome tests values new old → got .0 ≡ given a
+    → Accepts tests × (a ≡ values) × (got .1 ≡ new)
+gives {A} {B} tests values new old got a e f =
+    let h = accepted values new old tests a (ap (λ (x : Answer A × B). x .0) (sym e) ∙ f) in
+    let g : got ≡ (given values, new) = e ∙ accepts values new old tests h in
+    let v : given a ≡ given values = sym f ∙ ap (λ (x : Answer A × B). x .0) g in
+    (h, (cc), ap (λ (x : Answer A × B). x .1) g)
+
+pub accepts-both : (tests later : Tests) → Accepts tests → Accepts later → Accepts (tests ++ later)
+accepts-both [] later g h = h
+accepts-both (t ∷ tests) later g h = (g .0, accepts-both tests later (g .1) h)
+
+pub accepts-first : (tests later : Tests) → Accepts (tests ++ later) → Accepts tests
+accepts-first [] later h = tt
+accepts-first (t ∷ tests) later h = (h .0, accepts-first tests later (h .1))
+
+pub accepts-second : (tests later : Tests) → Accepts (tests ++ later) → Accepts later
+accepts-second [] later h = h
+accepts-second (t ∷ tests) later h = accepts-second tests later (h .1)
+
+-- ---- a judgement of the first tests decides what a call with more tests comes to
+
+module _ {A B : Type 0} (tests later : Tests) (values : A) (new old : B) (v : Verdict) (judged : verdict v ≡ answer tests tt) where
+  pub turned-by : (refusal : Refusal) → v ≡ Turned refusal → outcome (tests ++ later) values new old ≡ turned refusal old
+  turned-by refusal e = stops tt tt tt values new old later tests (number refusal) (sym judged ∙ ap verdict e)
+
+  pub passed-by : v ≡ Accepted → outcome (tests ++ later) values new old ≡ outcome later values new old
+  passed-by e = goes-on tt tt tt values new old later tests tt (sym judged ∙ ap verdict e)
+
+pub judged-accepts : (tests : Tests) (v : Verdict) → verdict v ≡ answer tests tt → v ≡ Accepted → Accepts tests
+judged-accepts tests v judged e = accepted tt tt tt tests tt (sym judged ∙ ap verdict e)

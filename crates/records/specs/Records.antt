@@ -1,0 +1,30 @@
+-- Blocks: "Records have one fixed size and no header. Two-byte numbers have the high byte first" (01). Each definition serves every
+-- kind of record; `bytes` gives a record's bytes, and `read` reads the record that a list begins with. Assumes nothing.
+use Prim.Native.Nat.{ℕ, zero, suc, _+_, _-_, _*_, _/_, _%_, _<_}
+use mathlib.Core.List.{List, [], _∷_, _++_}
+use lib.ListN.{length, getD, drop, replicate}
+
+-- Two bytes as a number, and a number as two bytes.
+abbrev pub word : ℕ → ℕ → ℕ
+word high low = high * 256 + low
+
+unfoldable pub wordBytes : ℕ → List ℕ
+wordBytes x = x / 256 ∷ x % 256 ∷ []
+
+-- Each number of a list is a byte.
+abbrev pub AllBytes : List ℕ → Type 0
+AllBytes s = (i : ℕ) → getD s i 0 < 256
+
+-- The bytes of a list of records.
+unfoldable pub flat : {A : Type 0} → (A → List ℕ) → List A → List ℕ
+flat bytes [] = []
+flat bytes (r ∷ records) = bytes r ++ flat bytes records
+
+-- The first n records of a block, each `width` bytes long.
+unfoldable pub chunks : {A : Type 0} → ℕ → (List ℕ → A) → ℕ → List ℕ → List A
+chunks width read zero block = []
+chunks width read (suc n) block = read block ∷ chunks width read n (drop width block)
+
+-- A table of `size` entries: the list, and the blank for the rest.
+abbrev pub table : {A : Type 0} → ℕ → A → List A → List A
+table size blank entries = entries ++ replicate (size - length entries) blank

@@ -1,0 +1,71 @@
+// A job and its limits.
+ghost use mathlib.Core.Path.{_≡_};
+ghost use Rattle.records.specs.Refusals.{answer};
+ghost use Rattle.records.specs.Jobs.{timesOk, newJobTests, newJobAnswer};
+use crate::refusal::Refusal;
+
+pub struct Job {
+    pub id: u8,
+    pub cost: u16,
+    pub period: u16,
+    pub deadline: u16,
+}
+
+// What making a job answers.
+pub enum NewJob {
+    Made(Job),
+    NotMade(Refusal),
+}
+
+impl Job {
+    // The longest period, in ticks.
+    pub const LONGEST_PERIOD: u16 = 60000;
+
+    // The most jobs: as many as a set has places.
+    pub const MOST: usize = sets::PLACES;
+
+    // The size of a job record, in bytes.
+    pub const SIZE: usize = 8;
+
+    // An entry of a table that holds no job.
+    pub const BLANK: Job = Job {
+        id: 0,
+        cost: 0,
+        period: 0,
+        deadline: 0,
+    };
+
+    // Whether refusal 5 lets these numbers by.
+    pub fn times_ok(cost: u16, period: u16, deadline: u16) -> bool
+        ensures { λ r. ⌜ r ≡ timesOk cost period deadline ⌝ }
+    {
+        if cost < 1 {
+            return false;
+        }
+        if deadline < cost {
+            return false;
+        }
+        if period < deadline {
+            return false;
+        }
+        period <= Job::LONGEST_PERIOD
+    }
+
+    // A job, or the first refusal that applies to its numbers.
+    pub fn new(id: u8, cost: u16, period: u16, deadline: u16) -> NewJob
+        ensures { λ r. ⌜ newJobAnswer r ≡ answer (newJobTests id cost period deadline) (record { id = id; cost = cost; period = period; deadline = deadline }) ⌝ }
+    {
+        if id < 1 {
+            return NewJob::NotMade(Refusal::JobId);
+        }
+        if !Job::times_ok(cost, period, deadline) {
+            return NewJob::NotMade(Refusal::JobTimes);
+        }
+        NewJob::Made(Job {
+            id,
+            cost,
+            period,
+            deadline,
+        })
+    }
+}

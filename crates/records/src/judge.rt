@@ -1,0 +1,92 @@
+// Refusals 1, 2, 3 and 5 of job blocks and tables.
+ghost use mathlib.Core.Path.{_≡_};
+ghost use Prim.Native.Nat.{_≤_};
+ghost use Rattle.sets.specs.Places.{every};
+ghost use Rattle.records.specs.Limits.{mostJobs};
+ghost use Rattle.records.specs.Refusals.{verdict, answer};
+ghost use Rattle.records.specs.Jobs.{jobOk, jobOkAt, jobTests, sizeTests, tableTests};
+use crate::job::Job;
+use crate::refusal::Refusal;
+use crate::refusal::Verdict;
+
+// What a job is held to: refusals 2, 3 and 5.
+pub enum JobRule {
+    Id,
+    Order,
+    Times,
+}
+
+// Whether the rule holds of a job, `before` being the id of the job before it.
+fn job_ok(rule: JobRule, before: u8, job: Job) -> bool
+    ensures { λ r. ⌜ r ≡ jobOk rule before job ⌝ }
+{
+    match rule {
+        JobRule::Id => 1 <= job.id,
+        JobRule::Order => before < job.id,
+        JobRule::Times => Job::times_ok(job.cost, job.period, job.deadline),
+    }
+}
+
+// Whether the rule holds of each of the first n jobs of a table.
+fn all_ok(rule: JobRule, table: [Job; Job::MOST], n: usize) -> bool
+    requires { ⌜ n ≤ mostJobs ⌝ }
+    ensures { λ r. ⌜ r ≡ every (jobOkAt rule table) n ⌝ }
+{
+    let mut before: u8 = 0;
+    let mut i = 0;
+    while i < n {
+        let job = table[i];
+        if !job_ok(rule, before, job) {
+            return false;
+        }
+        before = job.id;
+        i += 1;
+    }
+    true
+}
+
+// Judges the first n jobs of a table: refusals 2, 3 and 5.
+pub(crate) fn judge_jobs(table: [Job; Job::MOST], n: usize) -> Verdict
+    requires { ⌜ n ≤ mostJobs ⌝ }
+    ensures { λ r. ⌜ verdict r ≡ answer (jobTests n table) tt ⌝ }
+{
+    if !all_ok(JobRule::Id, table, n) {
+        return Verdict::Turned(Refusal::JobId);
+    }
+    if !all_ok(JobRule::Order, table, n) {
+        return Verdict::Turned(Refusal::IdOrder);
+    }
+    if !all_ok(JobRule::Times, table, n) {
+        return Verdict::Turned(Refusal::JobTimes);
+    }
+    Verdict::Accepted
+}
+
+// Judges the size of a job block: refusal 1.
+pub(crate) fn judge_size(size: usize) -> Verdict
+    ensures { λ r. ⌜ verdict r ≡ answer (sizeTests size) tt ⌝ }
+{
+    if size < 1 {
+        return Verdict::Turned(Refusal::JobCount);
+    }
+    if Job::MOST * Job::SIZE < size {
+        return Verdict::Turned(Refusal::JobCount);
+    }
+    if size % Job::SIZE != 0 {
+        return Verdict::Turned(Refusal::JobCount);
+    }
+    Verdict::Accepted
+}
+
+// Judges a table of n jobs: refusals 1, 2, 3 and 5.
+pub(crate) fn judge_table(table: [Job; Job::MOST], n: usize) -> Verdict
+    ensures { λ r. ⌜ verdict r ≡ answer (tableTests n table) tt ⌝ }
+{
+    if n < 1 {
+        return Verdict::Turned(Refusal::JobCount);
+    }
+    if Job::MOST < n {
+        return Verdict::Turned(Refusal::JobCount);
+    }
+    judge_jobs(table, n)
+}

@@ -1,0 +1,47 @@
+// Why a call is turned down.
+ghost use mathlib.Core.Path.{_≡_};
+ghost use Rattle.records.specs.Refusals.{number};
+
+// A case for each line of 01's list.
+pub enum Refusal {
+    JobCount,
+    JobId,
+    IdOrder,
+    Place,
+    JobTimes,
+    QuantumRange,
+    ConfigurationSize,
+    ConfigurationIds,
+    RecordShape,
+    LevelSharing,
+    NotPlaced,
+    OutputLength,
+}
+
+impl Refusal {
+    // The refusal's number.
+    pub fn number(self) -> u8
+        ensures { λ r. ⌜ r ≡ number self ⌝ }
+    {
+        match self {
+            Refusal::JobCount => 1,
+            Refusal::JobId => 2,
+            Refusal::IdOrder => 3,
+            Refusal::Place => 4,
+            Refusal::JobTimes => 5,
+            Refusal::QuantumRange => 6,
+            Refusal::ConfigurationSize => 7,
+            Refusal::ConfigurationIds => 8,
+            Refusal::RecordShape => 9,
+            Refusal::LevelSharing => 10,
+            Refusal::NotPlaced => 11,
+            Refusal::OutputLength => 12,
+        }
+    }
+}
+
+// The answer of a function that only judges.
+pub enum Verdict {
+    Accepted,
+    Turned(Refusal),
+}
