@@ -1,29 +1,19 @@
 -- The edges of 01 that concern job blocks and ranges, and two faults at once: one table, one computed statement. Assumes nothing.
 use Prim.Native.Nat.{ℕ}
 use mathlib.Core.Path.{_≡_, refl}
-use mathlib.Core.Bool.{Bool, true, false, _&&_}
+use mathlib.Core.Bool.{Bool, true, _&&_}
 use mathlib.Core.List.{List, [], _∷_, _++_}
-use lib.Dec.{eqb}
 use Rattle.sets.specs.Places.{every}
 use Rattle.records.specs.Records.{wordBytes, chunks}
 use Rattle.records.specs.Refusals.{Answer, refused, given, answer}
 use Rattle.records.specs.Jobs.{jobOf, timesOk, readJobs}
 use Rattle.records.specs.Ranges.{rangeTests}
-
--- The bytes of a record: id, second byte, C, T and D.
-pub row : ℕ → ℕ → ℕ → ℕ → ℕ → List ℕ
-row id second cost period deadline = id ∷ second ∷ (wordBytes cost ++ (wordBytes period ++ wordBytes deadline))
+use Rattle.records.proofs.Cases.{row, agree}
 
 -- A case: what a call was asked, in 01's numbers and values, and what it is to answer; a range is answered by 0.
 pub data Case : Type 0 where
   block : List ℕ → Answer ℕ → Case
   range : ℕ → ℕ → Answer ℕ → Case
-
-pub agree : Answer ℕ → Answer ℕ → Bool
-agree (refused a) (refused b) = eqb a b
-agree (refused a) (given b) = false
-agree (given a) (refused b) = false
-agree (given a) (given b) = eqb a b
 
 pub right : Case → Bool
 right (block s a) = agree (readJobs s .0) a

@@ -6,4 +6,6 @@ pub mod RoundTrip
 pub mod Equality
 pub mod RefusalNumbers
 pub mod Reading
+pub mod RangeTests
+pub mod Cases
 pub mod Edges

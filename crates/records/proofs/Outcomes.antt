@@ -32,6 +32,11 @@ module _ {A B C D : Type 0} (values : A) (new old : B) (values′ : C) (new′ o
       go true ih e′ = ih e′
       go false ih e′ = absurd (let z : _≡_ {A = ℕ} 0 1 = cc in omega arith)
 
+-- Tests that hold may be left out.
+pub past : {A B : Type 0} (tests later : Tests) (values : A) (new old : B) → Accepts tests → outcome (tests ++ later) values new old ≡ outcome later values new old
+past [] later values new old h = refl
+past (t ∷ tests) later values new old h = rw (h .0) (past tests later values new old (h .1))
+
 -- ---- values are given exactly if every test holds
 
 module _ {A B : Type 0} (values : A) (new old : B) where

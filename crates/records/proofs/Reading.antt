@@ -10,13 +10,13 @@ use borrow.Author.Tests.{leb-true, eqb-true, le-leb}
 use Rattle.sets.proofs.Places.{every-at}
 use Rattle.records.specs.Limits.{longestPeriod, mostJobs}
 use Rattle.records.specs.Refusals.{Answer, number, Tests, outcome, turned, Accepts}
-use Rattle.records.specs.Jobs.{jobSize, jobOf, jobAt, timesOk, jobOkAt, jobTests, AcceptedJobs, blockTests, jobCount, jobList, jobTable, jobsAnswer, jobsOutcome, readJobs}
+use Rattle.records.specs.Jobs.{jobSize, jobOf, jobAt, timesOk, jobOkAt, jobTests, countTests, tableTests, AcceptedJobs, blockTests, jobCount, jobList, jobTable, jobsAnswer, jobsOutcome, readJobs}
 use Rattle.records.specs.declared.job.Job.{Job}
 use Rattle.records.specs.declared.judge.JobRule.the-variants.{Times}
 use Rattle.records.specs.declared.refusal.Refusal.{Refusal}
 use Rattle.records.specs.declared.block.JobsRead.{JobsRead}
 use Rattle.records.specs.declared.block.JobsAnswer.the-variants.{Count, Refused}
-use Rattle.records.proofs.Outcomes.{stops, goes-on, gives}
+use Rattle.records.proofs.Outcomes.{stops, goes-on, gives, accepts-both}
 use Rattle.records.proofs.FixedWidth.{length-chunks}
 
 -- ---- an accepted block
@@ -28,18 +28,18 @@ module _ (block : List ℕ) (ok : Accepts (blockTests block)) where
   pub count-most : jobCount block ≤ mostJobs
   count-most = let l : length block ≤ mostJobs * jobSize = leb-true _ _ (ok .1 .0) in omega arith
 
+  pub count-accepted : Accepts (countTests (jobCount block))
+  count-accepted =
+      let few : 1 ≤ length block = leb-true _ _ (ok .0) in
+      let whole : length block % jobSize ≡ 0 = eqb-true _ _ (ok .1 .1 .0) in
+      (le-leb 1 (jobCount block) (omega arith), (le-leb (jobCount block) mostJobs count-most, tt))
+
   -- Its jobs are an accepted list.
   pub accepted-list : AcceptedJobs (jobList block)
   accepted-list =
-      let few : 1 ≤ length block = leb-true _ _ (ok .0) in
-      let whole : length block % jobSize ≡ 0 = eqb-true _ _ (ok .1 .1 .0) in
-      let n : length (jobList block) ≡ jobCount block = jobs-listed block in (
-        le-leb 1 (length (jobList block)) (omega arith),
-        (
-          le-leb (length (jobList block)) mostJobs (omega (arith, count-most)),
-          subst (λ (k : ℕ). Accepts (jobTests k (jobList block))) (sym n) (ok .1 .1 .1 .1),
-        ),
-      )
+      let n : length (jobList block) ≡ jobCount block = jobs-listed block in
+      subst (λ (k : ℕ). Accepts (tableTests k (jobList block))) (sym n)
+      (accepts-both (countTests (jobCount block)) (jobTests (jobCount block) (jobList block)) count-accepted (ok .1 .1 .1 .1))
 
 -- ---- an accepted list
 

@@ -1,0 +1,75 @@
+-- What a configuration of a list of jobs and a range is: what refusals 7 to 10 let by (01). Assumes nothing.
+use Prim.Native.Nat.{ℕ}
+use mathlib.Core.List.{List, [], _∷_}
+use mathlib.Core.Bool.{Bool, not, _&&_, _||_}
+use lib.Dec.{leb, eqb}
+use lib.ListN.{length}
+use Rattle.sets.specs.Places.{every, count}
+use Rattle.records.specs.Refusals.{Tests, Accepts}
+use Rattle.records.specs.Jobs.{jobAt}
+use Rattle.records.specs.declared.job.Job.{Job}
+use Rattle.configuration.specs.declared.setting.Setting.{Setting}
+use Rattle.configuration.specs.declared.judge.SettingRule.{SettingRule}
+use Rattle.configuration.specs.declared.judge.SettingRule.the-variants.{Id, Shape, Sharing}
+use Rattle.configuration.specs.Settings.{notPlaced, fifo, roundRobin, settingAt, levelAt}
+
+-- ---- refusal 9: the three shapes
+
+-- "Policy 0 is not placed (level 0, quantum 0)."
+abbrev pub isNotPlaced : Setting → Bool
+isNotPlaced setting = eqb (setting .policy) notPlaced && eqb (setting .level) 0 && eqb (setting .quantum) 0
+
+-- "Policy 1 is sched_fifo (quantum 0)."
+abbrev pub isFifo : Setting → Bool
+isFifo setting = eqb (setting .policy) fifo && eqb (setting .quantum) 0
+
+-- "Policy 2 is sched_rr (quantum from the lowest to the highest permitted)."
+abbrev pub isRoundRobin : ℕ → ℕ → Setting → Bool
+isRoundRobin low high setting = eqb (setting .policy) roundRobin && leb low (setting .quantum) && leb (setting .quantum) high
+
+-- "A placed job's level is 1 to n, n being the number of jobs."
+unfoldable pub placedLevel : ℕ → ℕ → Bool
+placedLevel n level = leb 1 level && leb level n
+
+-- The record has one of the three shapes.
+unfoldable pub shaped : ℕ → ℕ → ℕ → Setting → Bool
+shaped n low high setting = isNotPlaced setting || (placedLevel n (setting .level) && (isFifo setting || isRoundRobin low high setting))
+
+-- ---- refusal 10: who shares a level
+
+abbrev pub onLevel : List Setting → ℕ → ℕ → Bool
+onLevel settings level i = eqb (levelAt settings i) level
+
+-- The number of the first n jobs on a level.
+abbrev pub sharing : ℕ → List Setting → ℕ → ℕ
+sharing n settings level = count n (onLevel settings level)
+
+-- A policy 1 job is alone on its level, a policy 2 job is not.
+unfoldable pub levelled : ℕ → List Setting → Setting → Bool
+levelled n settings setting =
+    (not (eqb (setting .policy) fifo) || eqb (sharing n settings (setting .level)) 1)
+    && (not (eqb (setting .policy) roundRobin) || leb 2 (sharing n settings (setting .level)))
+
+-- ---- refusals 7 to 10
+
+-- What a rule asks of the setting at place i; refusal 8: the ids are the jobs' ids in order.
+abbrev pub settingOk : SettingRule → ℕ → List Job → ℕ → ℕ → List Setting → ℕ → Bool
+settingOk Id n jobs low high settings i = eqb (settingAt settings i .id) (jobAt jobs i .id)
+settingOk Shape n jobs low high settings i = shaped n low high (settingAt settings i)
+settingOk Sharing n jobs low high settings i = levelled n settings (settingAt settings i)
+
+-- Refusals 8, 9 and 10 of the settings of n jobs.
+abbrev pub settingTests : ℕ → List Job → ℕ → ℕ → List Setting → Tests
+settingTests n jobs low high settings =
+    (every (settingOk Id n jobs low high settings) n, 8)
+    ∷ (every (settingOk Shape n jobs low high settings) n, 9)
+    ∷ (every (settingOk Sharing n jobs low high settings) n, 10)
+    ∷ []
+
+-- Refusals 7 to 10 of a list of settings for a list of jobs.
+abbrev pub configurationTests : List Job → ℕ → ℕ → List Setting → Tests
+configurationTests jobs low high settings = (eqb (length settings) (length jobs), 7) ∷ settingTests (length jobs) jobs low high settings
+
+-- "A configuration of a list is any that refusals 7 to 10 let by for that list and range."
+abbrev pub Configuration : List Job → ℕ → ℕ → List Setting → Type 0
+Configuration jobs low high settings = Accepts (configurationTests jobs low high settings)

@@ -1,0 +1,4 @@
+pub mod Settings
+pub mod Configuration
+pub mod Shape
+pub mod Blocks

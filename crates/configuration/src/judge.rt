@@ -1,0 +1,176 @@
+// Refusals 7 to 10 of settings.
+ghost use mathlib.Core.Path.{_≡_};
+ghost use Prim.Native.Nat.{_≤_, _<_};
+ghost use Rattle.sets.specs.Places.{every};
+ghost use Rattle.records.specs.Limits.{mostJobs};
+ghost use Rattle.records.specs.Refusals.{answer, verdict};
+ghost use Rattle.configuration.specs.Configuration.{placedLevel, shaped, sharing, levelled, settingOk, settingTests};
+ghost use Rattle.configuration.specs.Blocks.{tableTests};
+use crate::setting::Setting;
+use records::job::Job;
+use records::range::NewRange;
+use records::range::Range;
+use records::refusal::Refusal;
+use records::refusal::Verdict;
+
+// Whether a placed job of n can have the level.
+fn is_level(n: usize, level: u8) -> bool
+    ensures { λ r. ⌜ r ≡ placedLevel n level ⌝ }
+{
+    if level < 1 {
+        return false;
+    }
+    level as usize <= n
+}
+
+// Whether a setting has one of the three shapes, n being the number of jobs.
+fn has_shape(n: usize, range: Range, setting: Setting) -> bool
+    ensures { λ r. ⌜ r ≡ shaped n (range .low) (range .high) setting ⌝ }
+{
+    if setting.policy == Setting::NOT_PLACED {
+        if setting.level != 0 {
+            return false;
+        }
+        return setting.quantum == 0;
+    }
+    if !is_level(n, setting.level) {
+        return false;
+    }
+    if setting.policy == Setting::FIFO {
+        return setting.quantum == 0;
+    }
+    if setting.policy != Setting::ROUND_ROBIN {
+        return false;
+    }
+    if setting.quantum < range.low {
+        return false;
+    }
+    setting.quantum <= range.high
+}
+
+// The number of the first n settings on a level.
+fn on_level(settings: [Setting; Job::MOST], n: usize, level: u8) -> usize
+    requires { ⌜ n ≤ mostJobs ⌝ }
+    ensures { λ r. ⌜ r ≡ sharing n settings level ⌝ }
+{
+    let mut jobs = 0;
+    let mut i = 0;
+    while i < n {
+        let setting = settings[i];
+        if setting.level == level {
+            jobs += 1;
+        }
+        i += 1;
+    }
+    jobs
+}
+
+// Whether a policy 1 job is alone on its level, and a policy 2 job is not.
+fn is_levelled(settings: [Setting; Job::MOST], n: usize, setting: Setting) -> bool
+    requires { ⌜ n ≤ mostJobs ⌝ }
+    ensures { λ r. ⌜ r ≡ levelled n settings setting ⌝ }
+{
+    let jobs = on_level(settings, n, setting.level);
+    if setting.policy == Setting::FIFO {
+        return jobs == 1;
+    }
+    if setting.policy == Setting::ROUND_ROBIN {
+        return 2 <= jobs;
+    }
+    true
+}
+
+// What a setting is held to: refusals 8, 9 and 10.
+pub enum SettingRule {
+    Id,
+    Shape,
+    Sharing,
+}
+
+// Whether the rule holds of the setting at place i.
+fn setting_ok(
+    rule: SettingRule,
+    jobs: [Job; Job::MOST],
+    settings: [Setting; Job::MOST],
+    n: usize,
+    range: Range,
+    i: usize,
+) -> bool
+    requires { ⌜ (n ≤ mostJobs) × (i < mostJobs) ⌝ }
+    ensures { λ r. ⌜ r ≡ settingOk rule n jobs (range .low) (range .high) settings i ⌝ }
+{
+    let setting = settings[i];
+    match rule {
+        SettingRule::Id => {
+            let job = jobs[i];
+            setting.id == job.id
+        }
+        SettingRule::Shape => has_shape(n, range, setting),
+        SettingRule::Sharing => is_levelled(settings, n, setting),
+    }
+}
+
+// Whether the rule holds of each of the first n settings.
+fn all_ok(
+    rule: SettingRule,
+    jobs: [Job; Job::MOST],
+    settings: [Setting; Job::MOST],
+    n: usize,
+    range: Range,
+) -> bool
+    requires { ⌜ n ≤ mostJobs ⌝ }
+    ensures { λ r. ⌜ r ≡ every (settingOk rule n jobs (range .low) (range .high) settings) n ⌝ }
+{
+    let mut i = 0;
+    while i < n {
+        if !setting_ok(rule, jobs, settings, n, range, i) {
+            return false;
+        }
+        i += 1;
+    }
+    true
+}
+
+// Judges the first n settings of a table: refusals 8, 9 and 10.
+pub(crate) fn judge_settings(
+    jobs: [Job; Job::MOST],
+    settings: [Setting; Job::MOST],
+    n: usize,
+    range: Range,
+) -> Verdict
+    requires { ⌜ n ≤ mostJobs ⌝ }
+    ensures { λ r. ⌜ verdict r ≡ answer (settingTests n jobs (range .low) (range .high) settings) tt ⌝ }
+{
+    if !all_ok(SettingRule::Id, jobs, settings, n, range) {
+        return Verdict::Turned(Refusal::ConfigurationIds);
+    }
+    if !all_ok(SettingRule::Shape, jobs, settings, n, range) {
+        return Verdict::Turned(Refusal::RecordShape);
+    }
+    if !all_ok(SettingRule::Sharing, jobs, settings, n, range) {
+        return Verdict::Turned(Refusal::LevelSharing);
+    }
+    Verdict::Accepted
+}
+
+// Judges a range and a table of `count` settings for n jobs: refusals 6 to 10.
+pub(crate) fn judge_table(
+    jobs: [Job; Job::MOST],
+    n: usize,
+    low: u8,
+    high: u8,
+    settings: [Setting; Job::MOST],
+    count: usize,
+) -> Verdict
+    requires { ⌜ n ≤ mostJobs ⌝ }
+    ensures { λ r. ⌜ verdict r ≡ answer (tableTests n jobs low high count settings) tt ⌝ }
+{
+    let made = Range::new(low, high);
+    let NewRange::Made(range) = made else {
+        return Verdict::Turned(Refusal::QuantumRange);
+    };
+    if count != n {
+        return Verdict::Turned(Refusal::ConfigurationSize);
+    }
+    judge_settings(jobs, settings, n, range)
+}
