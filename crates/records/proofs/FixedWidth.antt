@@ -8,6 +8,8 @@ use native.Mathlib.Nat.{mul-suc, mul-zero, add-comm, zero-add}
 use native.Mathlib.Omega.{arith}
 use lib.ListN.{length, getD, take, drop, set, replicate, length-append, length-drop, drop-of-length-le, List·getD-append}
 use lib.Seq.{drop-cons, drop-drop, set-at, append-snoc, take-all, take-at, drop-at, take-suc, take-add, length-take-le, getD-append-add}
+use Rattle.sets.specs.Places.{listOf}
+use Rattle.sets.proofs.Places.{list-suc, list-length}
 use Rattle.records.specs.Records.{word, wordBytes, flat, chunks, table}
 
 -- ---- lists of records
@@ -62,6 +64,13 @@ pub fill-next : {A : Type 0} (k i : ℕ) (xs : List A) (z a : A) → length xs �
 fill-next k i xs z a l h =
     let e : k - length xs ≡ suc (k - length (xs ++ (a ∷ []))) = simp length-append (omega arith) in
     rw e (set-at xs z _ a i l ∙ sym (append-snoc xs a _))
+
+-- Filled with the values of f, place by place.
+pub list-next : {A : Type 0} (f : ℕ → A) (k i : ℕ) (z : A) (t : List A) (a : A) → i < k → t ≡ table k z (listOf f i) → a ≡ f i → set t i a ≡ table k z (listOf f (i + 1))
+list-next f k i z t a h e g = rw (e, g, add-one i, list-suc f i) (fill-next k i (listOf f i) z (f i) (list-length f i) h)
+
+pub table-full : {A : Type 0} (k : ℕ) (z : A) (xs : List A) → length xs ≡ k → table k z xs ≡ xs
+table-full k z xs e = let none : k - length xs ≡ 0 = omega arith in rw none (append-nil xs)
 
 pub take-table : {A : Type 0} (k : ℕ) (z : A) (n : ℕ) (xs : List A) → length xs ≡ n → take n (table k z xs) ≡ xs
 take-table k z n xs e = take-at xs _ n e

@@ -165,6 +165,25 @@ pub has-remove : (s i j : ℕ) → i < places → has (remove s i) j ≡ (has s 
 unfolding remove
 has-remove s i j l = has-rest j s (single i) ∙ ap (λ (b : Bool). has s j && not b) (has-single i j l)
 
+-- The members of s but one, at a place below the last.
+pub has-others : (s k i : ℕ) → i < places → has (remove s k) i ≡ (has s i && not (eqb i k))
+unfolding remove
+has-others s k i l = elim (decLe (suc k) places) [
+  | yes g ↦ has-remove s k i g ∙ ap (λ (b : Bool). has s i && not b) (eqb-swap k i)
+  | no g ↦ past (omega arith)
+]
+  where
+    eqb-swap : (a b : ℕ) → eqb a b ≡ eqb b a
+    eqb-swap a b = elim (ℕ-discrete a b) [
+      | yes e ↦ eq-eqb a b e ∙ sym (eq-eqb b a (sym e))
+      | no e ↦ ne-eqb a b e ∙ sym (ne-eqb b a (λ (x : b ≡ a). e (sym x)))
+    ]
+
+    past : places ≤ k → has (remove s k) i ≡ (has s i && not (eqb i k))
+    past g =
+        has-rest i s (single k)
+        ∙ ap (λ (b : Bool). has s i && not b) (ap (λ (x : ℕ). has x i) (single-past k g) ∙ has-none i ∙ sym (ne-eqb i k (λ e. omega arith)))
+
 -- ---- numbers and members
 
 pub halves : (n r s : ℕ) → Sub (suc n) (has s) (has r) → Sub n (has (s / 2)) (has (r / 2))

@@ -1,13 +1,16 @@
--- Laws of tests, sums and counts over places. Assumes nothing.
+-- Laws of tests, sums, counts and lists over places. Assumes nothing.
 use mathlib.Core.Path.{_≡_, refl, sym, _∙_, ap, ap₂}
 use mathlib.Core.Bool.{Bool, true, false, cond, _&&_, and-eq-true-iff, and-false, false≢true}
+use mathlib.Core.List.{List, [], _∷_, _++_}
 use mathlib.Core.Logic.{_⊎_, inl, inr, _≢_}
 use Prim.Native.Nat.{ℕ, zero, suc, _+_, _*_, _≤_, _<_, zero-le}
-use native.Mathlib.Nat.{le-refl, add-zero}
+use native.Mathlib.Nat.{le-refl, add-zero, mul-zero, mul-add}
 use native.Mathlib.Numerals.{add-one}
 use native.Mathlib.Decide.{ℕ-discrete, decLe}
 use native.Mathlib.Omega.{arith}
-use Rattle.sets.specs.Places.{every, sum, sumOver, count}
+use lib.ListN.{length, getD, length-append, List·getD-append}
+use lib.Seq.{getD-at}
+use Rattle.sets.specs.Places.{every, sum, sumOver, count, listOf}
 use Rattle.sets.specs.Sets.{Set, Sub}
 
 -- ---- tests at every place
@@ -134,6 +137,30 @@ over-zero n s f h = sum-zero _ n (λ i l. go (s i) (h i l))
     go true e = e refl
     go false e = refl
 
+-- Places that add nothing may be left out at the end.
+pub over-cut : (n m : ℕ) (s : Set) (f : ℕ → ℕ) → n ≤ m → ((i : ℕ) → n ≤ i → i < m → s i ≡ true → f i ≡ 0) → sumOver m s f ≡ sumOver n s f
+unfolding sumOver sum
+over-cut n zero s f l h = let e : n ≡ 0 = omega arith in rw e
+over-cut n (suc m) s f l h = elim (ℕ-discrete n (suc m)) [
+  | yes e ↦ rw e
+  | no e ↦ omega (arith, over-cut n m s f (omega arith) (λ i a b. h i a (omega arith)), at (s m) (h m (omega arith) (omega arith)))
+]
+  where
+    at : (b : Bool) → (b ≡ true → f m ≡ 0) → cond b (f m) 0 ≡ 0
+    at true z = z refl
+    at false z = refl
+
+-- A factor of every value.
+pub over-scale : (n t : ℕ) (s : Set) (f : ℕ → ℕ) → sumOver n s (λ i. t * f i) ≡ t * sumOver n s f
+unfolding sumOver sum
+over-scale zero t s f = sym (mul-zero t)
+over-scale (suc n) t s f =
+    omega (arith, over-scale n t s f, mul-add t (sum (λ i. cond (s i) (f i) 0) n) (cond (s n) (f n) 0), at (s n))
+  where
+    at : (b : Bool) → cond b (t * f n) 0 ≡ t * cond b (f n) 0
+    at true = refl
+    at false = sym (mul-zero t)
+
 -- A loop that sums over a set: no place is passed, and place n is in the set or not, by the test b that the code made.
 pub over-none : (s : Set) (f : ℕ → ℕ) → sumOver 0 s f ≡ 0
 unfolding sumOver sum
@@ -236,3 +263,31 @@ count-alone n s k l e h = elim (decLe 2 (count n s)) [
   | yes g ↦ absurd (let w = count-other n s k g in w .3 (h (w .0) (w .1) (w .2)))
   | no g ↦ omega (arith, count-one n s k l e, g)
 ]
+
+-- ---- lists
+
+pub list-none : {A : Type 0} (f : ℕ → A) → listOf f 0 ≡ []
+unfolding listOf
+list-none f = refl
+
+pub list-suc : {A : Type 0} (f : ℕ → A) (n : ℕ) → listOf f (suc n) ≡ listOf f n ++ (f n ∷ [])
+unfolding listOf
+list-suc f n = refl
+
+pub list-length : {A : Type 0} (f : ℕ → A) (n : ℕ) → length (listOf f n) ≡ n
+unfolding listOf
+list-length f zero = refl
+list-length f (suc n) = length-append (listOf f n) (f n ∷ []) ∙ omega (arith, list-length f n)
+
+pub list-at : {A : Type 0} (f : ℕ → A) (n i : ℕ) (z : A) → i < n → getD (listOf f n) i z ≡ f i
+unfolding listOf
+list-at f zero i z l = absurd (omega arith)
+list-at f (suc n) i z l = elim (ℕ-discrete i n) [
+  | yes e ↦ getD-at (listOf f n) (f n) [] z i (list-length f n ∙ sym e) ∙ ap f (sym e)
+  | no e ↦ List·getD-append (listOf f n) (f n ∷ []) z i (omega (arith, list-length f n)) ∙ list-at f n i z (omega arith)
+]
+
+pub list-same : {A : Type 0} (f g : ℕ → A) (n : ℕ) → ((i : ℕ) → i < n → f i ≡ g i) → listOf f n ≡ listOf g n
+unfolding listOf
+list-same f g zero h = refl
+list-same {A} f g (suc n) h = ap₂ (λ (l : List A) (x : A). l ++ (x ∷ [])) (list-same f g n (λ i l. h i (omega arith))) (h n (omega arith))

@@ -1,6 +1,7 @@
--- Tests and sums over places. A place is a job's position in its list, from 0. Assumes nothing.
+-- Tests, sums and lists over places. A place is a job's position in its list, from 0. Assumes nothing.
 use Prim.Native.Nat.{ℕ, zero, suc, _+_}
 use mathlib.Core.Bool.{Bool, true, cond, _&&_}
+use mathlib.Core.List.{List, [], _∷_, _++_}
 
 -- The test passes at each place below n.
 unfoldable pub every : (ℕ → Bool) → ℕ → Bool
@@ -19,3 +20,8 @@ sumOver n set f = sum (λ i. cond (set i) (f i) 0) n
 -- The number of places below n that are in the set.
 unfoldable pub count : ℕ → (ℕ → Bool) → ℕ
 count n set = sumOver n set (λ i. 1)
+
+-- The values of f at the places below n.
+unfoldable pub listOf : {A : Type 0} → (ℕ → A) → ℕ → List A
+listOf f zero = []
+listOf f (suc n) = listOf f n ++ (f n ∷ [])

@@ -1,0 +1,61 @@
+-- Laws of division rounded up. Assumes nothing.
+use Prim.Native.Nat.{ℕ, zero, suc, _+_, _*_, _/_, _-_, _^_, _≤_, _<_, zero-le}
+use mathlib.Core.Path.{_≡_, _∙_}
+use native.Mathlib.Nat.{le-refl, le-trans, mul-le-mul, mul-le-mul-left, mul-le-mul-right, le-div-iff-mul-le, div-mul-le-self, div-zero, div-le-self, zero-lt-suc, lt-mul-div-succ, div-lt-iff-lt-mul, mul-comm, add-mul}
+use native.Mathlib.Omega.{arith}
+use Rattle.response.specs.Demand.{ceilDiv}
+
+pub ceil-zero : (x y : ℕ) → y ≡ 0 → ceilDiv x y ≡ 0
+unfolding ceilDiv
+ceil-zero x y e = simp (e, div-zero)
+
+div-mono : (x y d : ℕ) → x ≤ y → x / d ≤ y / d
+div-mono x y zero h = rw (div-zero, div-zero) (le-refl 0)
+div-mono x y (suc d) h = le-div-iff-mul-le (zero-lt-suc d) .1 (omega (arith, div-mul-le-self x (suc d)))
+
+pub ceil-mono : (x y d : ℕ) → x ≤ y → ceilDiv x d ≤ ceilDiv y d
+unfolding ceilDiv
+ceil-mono x y d h = div-mono (x + (d - 1)) (y + (d - 1)) d (omega arith)
+
+-- A longer quantum: no more cycles.
+pub ceil-anti : (x d e : ℕ) → 0 < d → d ≤ e → ceilDiv x e ≤ ceilDiv x d
+unfolding ceilDiv
+ceil-anti x d e p h =
+    let pe : 0 < e = omega arith in
+    let m = (x + (d - 1)) / d in
+    let a = lt-mul-div-succ (x + (d - 1)) p in
+    let b : (x + (e - 1)) / e < m + 1 = div-lt-iff-lt-mul pe .1 (omega (arith, a, mul-le-mul-right m h)) in
+    omega arith
+
+-- So many times y cover x.
+pub ceil-covers : (x y : ℕ) → 0 < y → x ≤ ceilDiv x y * y
+unfolding ceilDiv
+ceil-covers x y p = omega (arith, lt-mul-div-succ (x + (y - 1)) p, mul-comm y ((x + (y - 1)) / y + 1), add-mul ((x + (y - 1)) / y) 1 y)
+
+pub ceil-le : (x y : ℕ) → ceilDiv x y ≤ x
+unfolding ceilDiv
+ceil-le x zero = rw div-zero zero-le
+ceil-le x (suc y) =
+    let e : (x + 1) * suc y ≡ x * suc y + suc y = mul-comm (x + 1) (suc y) ∙ omega (arith, mul-comm x (suc y)) in
+    let m : x * 1 ≤ x * suc y = mul-le-mul-left x (omega arith) in
+    let l : (x + (suc y - 1)) / suc y < x + 1 = div-lt-iff-lt-mul (zero-lt-suc y) .1 (omega arith) in
+    omega arith
+
+-- The quotient at t is at most t times the quotient at 1.
+pub ceil-one : (t y : ℕ) → ceilDiv t y ≤ t * ceilDiv 1 y
+unfolding ceilDiv
+ceil-one t zero = rw (div-zero, div-zero) (omega arith)
+ceil-one t (suc y) = le-trans (ceil-le t (suc y)) (omega (arith, mul-le-mul-left t one))
+  where
+    one : 1 ≤ (1 + (suc y - 1)) / suc y
+    one = le-div-iff-mul-le (zero-lt-suc y) .1 (omega arith)
+
+-- ---- what fits
+
+pub ceil-lt : (x y : ℕ) → x < 2 ^ 31 → y < 2 ^ 16 → ceilDiv x y < 2 ^ 31 + 2 ^ 16
+unfolding ceilDiv
+ceil-lt x y hx hy = omega (arith, div-le-self (x + (y - 1)) y)
+
+-- The product of a quotient and a 16-bit number.
+pub product-lt : (x y : ℕ) → x < 2 ^ 32 → y < 2 ^ 16 → x * y < 2 ^ 48
+product-lt x y hx hy = let m : x * y ≤ 4294967295 * 65535 = mul-le-mul {n₂ = 4294967295} {m₂ = 65535} (omega arith) (omega arith) in omega arith

@@ -1,0 +1,35 @@
+use Prim.Native.Nat.{ℕ, _*_}
+use mathlib.Core.Path.{ap}
+use native.Mathlib.Omega.{arith}
+use Rattle.response.specs.Demand.{work}
+use Rattle.response.proofs.Division.{product-lt}
+use borrow.Author.Needs.{needs}
+use Rattle.response.proofs.demand.work.Statement.{statement}
+use Rattle.response.proofs.demand.work.Tie as tie
+
+cast-ceil-div : tie.Need-cast-ceil-div
+cast-ceil-div c = search needs
+
+ceil-div-requires : tie.Need-ceil-div-requires
+ceil-div-requires c κs = search needs
+
+cast-result : tie.Need-cast-result
+cast-result c = search needs
+
+cast-result-2 : tie.Need-cast-result-2
+cast-result-2 c = search needs
+
+mul-result : tie.Need-mul-result
+mul-result c = omega (arith, product-lt (c .before .ceil-div .result) (c .before .before .before .args .job .cost) (search needs) (search needs))
+
+returns : tie.Need-returns
+unfolding work
+returns c =
+    let a = c .before .before .before .args in
+    let d = c .before .ceil-div in
+    (ap (λ (x : ℕ). x * a .job .cost) (d .ensures .0), product-lt (d .result) (a .job .cost) (search needs) (search needs))
+
+pub work-spec : {M : Type 1} → statement M
+work-spec =
+    tie.close
+    (tie.spec cast-ceil-div ceil-div-requires cast-result cast-result-2 mul-result returns)

@@ -1,0 +1,58 @@
+// The parts of a job's demand.
+ghost use mathlib.Core.Path.{_≡_};
+ghost use Prim.Native.Nat.{_+_, _*_, _^_, _<_, _≤_};
+ghost use Rattle.sets.specs.Sets.{has};
+ghost use Rattle.records.specs.Limits.{mostJobs};
+ghost use Rattle.response.specs.Demand.{ceilDiv, work, interference, otherQuanta};
+use records::job::Job;
+
+// a divided by b, rounded up; 0 where b is 0.
+pub(crate) fn ceil_div(a: u32, b: u32) -> u32
+    requires { ⌜ (a < 2 ^ 31) × (b < 2 ^ 16) ⌝ }
+    ensures { λ r. ⌜ (r ≡ ceilDiv a b) × (r < 2 ^ 31 + 2 ^ 16) ⌝ }
+{
+    if b == 0 {
+        return 0;
+    }
+    (a + (b - 1)) / b
+}
+
+// The work that a job adds within t ticks.
+fn work(job: Job, t: u32) -> u64
+    requires { ⌜ t < 2 ^ 31 ⌝ }
+    ensures { λ r. ⌜ (r ≡ work job t) × (r < 2 ^ 48) ⌝ }
+{
+    (ceil_div(t, job.period as u32) as u64) * (job.cost as u64)
+}
+
+// The work of the jobs of the set above within t ticks.
+pub(crate) fn interference(jobs: [Job; Job::MOST], above: u8, t: u32) -> u64
+    requires { ⌜ t < 2 ^ 31 ⌝ }
+    ensures { λ r. ⌜ (r ≡ interference jobs (has above) t) × (r ≤ 2 ^ 51) ⌝ }
+{
+    let mut sum: u64 = 0;
+    let mut i = 0;
+    while i < Job::MOST {
+        if sets::contains(above, i) {
+            sum += work(jobs[i], t);
+        }
+        i += 1;
+    }
+    sum
+}
+
+// The sum of the quanta of the layer's other jobs.
+pub(crate) fn other_quanta(quanta: [u8; Job::MOST], layer: u8, job: usize) -> u32
+    ensures { λ r. ⌜ (r ≡ otherQuanta mostJobs quanta (has layer) job) × (r ≤ 2 ^ 11) ⌝ }
+{
+    let others = sets::remove(layer, job);
+    let mut sum: u32 = 0;
+    let mut i = 0;
+    while i < Job::MOST {
+        if sets::contains(others, i) {
+            sum += quanta[i] as u32;
+        }
+        i += 1;
+    }
+    sum
+}
