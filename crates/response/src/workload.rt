@@ -56,7 +56,8 @@ fn time_for(jobs: [Job; Job::MOST], above: u8, taken: u64, own: u32, deadline: u
         }
         t = (own as u64) * WHOLE / (WHOLE - taken);
     }
-    while t <= deadline as u64 {
+    let late = deadline as u64 + 1;
+    while t < late {
         let now = t as u32;
         let next = own as u64 + demand::interference(jobs, above, now);
         if next <= t {

@@ -13,11 +13,11 @@ use Rattle.response.proofs.workload.time_for.Tie as tie
 
 -- What is sought is what the iteration finds from t on.
 abbrev Inv-loop : tie.InvT-loop
-Inv-loop jobs above taken own deadline t₀ t =
+Inv-loop jobs above taken own deadline t₀ late t =
     timeFor (interference jobs (has above)) taken own deadline ≡ climb (λ x. own + interference jobs (has above) x) deadline (suc deadline) t
 
 abbrev μ-loop : tie.MeasureT-loop
-μ-loop jobs above taken own deadline t₀ t = deadline + 1 - t
+μ-loop jobs above taken own deadline t₀ late t = deadline + 1 - t
 
 returns : tie.Need-returns Inv-loop μ-loop
 returns c =
@@ -32,6 +32,9 @@ sub-t c = search needs
 
 div-t : tie.Need-div-t Inv-loop μ-loop
 div-t c = search needs
+
+add-late : tie.Need-add-late Inv-loop μ-loop
+add-late c = search needs
 
 loop-holds : tie.Need-loop-holds Inv-loop μ-loop
 loop-holds c =
@@ -69,13 +72,13 @@ returns-2 : tie.Need-returns-2 Inv-loop μ-loop
 returns-2 c =
     let p = c .before .before in
     let l = p .before .before .before .loop in
-    sym (l .inv ∙ loop-found (f p) _ (p .before .before .loop-test .taken) (sym (next p) ∙ c .if4 .taken))
+    sym (l .inv ∙ loop-found (f p) _ (omega (arith, p .before .before .loop-test .taken)) (sym (next p) ∙ c .if4 .taken))
 
 returns-3 : tie.Need-returns-3 Inv-loop μ-loop
 returns-3 c =
     let p = c .before .before in
     let l = p .before .before .before .loop in
-    sym (l .inv ∙ loop-falls (f p) _ (p .before .before .loop-test .taken) (omega (arith, next p, c .before .if3 .taken)) (λ e. c .if4 .left (next p ∙ e)))
+    sym (l .inv ∙ loop-falls (f p) _ (omega (arith, p .before .before .loop-test .taken)) (omega (arith, next p, c .before .if3 .taken)) (λ e. c .if4 .left (next p ∙ e)))
 
 loop-less : tie.Need-loop-less Inv-loop μ-loop
 loop-less c = search needs
@@ -85,10 +88,10 @@ loop-again c =
     let p = c .before in
     let l = p .before .before .before .loop in
     let a = p .before .before .before .before .before .args in
-    l .inv ∙ loop-rises (f p) _ (p .before .before .loop-test .taken) (omega (arith, next p, c .if3 .left)) ∙ sym (ap (climb (f p) (a .deadline) (suc (a .deadline))) (next p))
+    l .inv ∙ loop-rises (f p) _ (omega (arith, p .before .before .loop-test .taken)) (omega (arith, next p, c .if3 .left)) ∙ sym (ap (climb (f p) (a .deadline) (suc (a .deadline))) (next p))
 
 returns-4 : tie.Need-returns-4 Inv-loop μ-loop
-returns-4 c = sym (c .before .loop .inv ∙ loop-past _ _ (c .loop-test .left))
+returns-4 c = sym (c .before .loop .inv ∙ loop-past _ _ (omega (arith, c .loop-test .left)))
 
 pub time-for-spec : {M : Type 1} → statement M
 time-for-spec =
@@ -100,6 +103,7 @@ time-for-spec =
     mul-t
     sub-t
     div-t
+    add-late
     loop-holds
     cast-now
     interference-requires
