@@ -41,6 +41,14 @@ unfolding least
 least-none f zero t never = refl
 least-none f (suc n) t never = least-miss f n t (never t (le-refl t) (omega arith)) ∙ least-none f n (suc t) (λ x a b. never x (omega arith) (omega arith))
 
+-- A time in reach that equals its demand: then what is found is no later.
+pub least-first : (f : ℕ → ℕ) (n t x : ℕ) → 0 < t → t ≤ x → x < t + n → f x ≡ x → (0 < least f n t) × (least f n t ≤ x)
+least-first f zero t x p l h e = absurd (omega arith)
+least-first f (suc n) t x p l h e = elim (ℕ-discrete (f t) t) [
+  | yes g ↦ rw (least-hit f n t g) (p, l)
+  | no g ↦ rw (least-miss f n t g) (least-first f n (suc t) x (omega arith) (elim (ℕ-discrete t x) [ yes z ↦ absurd (g (rw z e)) | no z ↦ omega arith ]) (omega arith) e)
+]
+
 -- A demand that rises with time and is never 0.
 pub record Rising (f : ℕ → ℕ) : Type 0 where
   pub pos : (t : ℕ) → 0 < f t

@@ -1,6 +1,6 @@
 -- Laws of membership: each follows from the lowest digit of the set's number and from its half. They hold at any width. Assumes nothing.
 use mathlib.Core.Path.{_≡_, refl, sym, _∙_, ap, ap₂}
-use mathlib.Core.Bool.{Bool, true, false, cond, not, _&&_, _||_, false≢true}
+use mathlib.Core.Bool.{Bool, true, false, cond, not, _&&_, _||_, false≢true, or-true, or-false}
 use mathlib.Core.Logic.{_⊎_, inl, inr}
 use Prim.Native.Nat.{ℕ, zero, suc, _+_, _*_, _-_, _/_, _%_, _^_, _≤_, _<_, min, max}
 use native.Mathlib.Nat.{div-one, div-eq-of-lt, div-div-eq-div-mul, pow-succ', pow-suc, le-antisymm, mod-eq-of-lt, mul-mod-right, one-mul}
@@ -8,10 +8,10 @@ use native.Mathlib.Decide.{decLe, ℕ-discrete}
 use native.Mathlib.Omega.{arith}
 use lib.Arith.{lt-one}
 use lib.Bits.{bitAnd, bitOr, and-step, or-step, and-shr, or-shr, and-le-l}
-use lib.Dec.{eqb, eqb·zero-suc, eqb·suc-zero, eqb·suc-suc}
+use lib.Dec.{eqb, ltb, eqb·zero-suc, eqb·suc-zero, eqb·suc-suc}
 use lib.Pow.{pow-add, pow-pos, pow-mono, pow-lt}
-use borrow.Author.Tests.{eqb-true, eq-eqb, ne-eqb, not-true, not-false}
-use Rattle.sets.specs.Sets.{Set, places, has, single, insert, rest, remove, Sub}
+use borrow.Author.Tests.{eqb-true, eq-eqb, ne-eqb, not-true, not-false, lt-ltb, le-ltb}
+use Rattle.sets.specs.Sets.{Set, places, has, single, insert, rest, remove, Sub, Collects}
 use Rattle.sets.proofs.Places.{fails-at}
 
 -- ---- the lowest digit and the half
@@ -183,6 +183,41 @@ has-others s k i l = elim (decLe (suc k) places) [
     past g =
         has-rest i s (single k)
         ∙ ap (λ (b : Bool). has s i && not b) (ap (λ (x : ℕ). has x i) (single-past k g) ∙ has-none i ∙ sym (ne-eqb i k (λ e. omega arith)))
+
+-- ---- a loop that collects the places of a set: b is the test that the code made at place n
+
+pub collect-none : (set : Set) → Collects 0 set 0
+collect-none set i = has-none i ∙ sym (ap (λ (b : Bool). b && set i) (le-ltb i 0 (omega arith)))
+
+module _ (n : ℕ) (set : Set) (s : ℕ) (C : Collects n set s) {b : Bool} (test : b ≡ set n) where
+  -- At another place nothing changes.
+  elsewhere : (i : ℕ) → (i ≡ n → ⊥) → (ltb i (n + 1) && set i) ≡ (ltb i n && set i)
+  elsewhere i d =
+      let same : ltb i (n + 1) ≡ ltb i n = elim (decLe n i) [
+        | yes l ↦ le-ltb i (n + 1) (omega arith) ∙ sym (le-ltb i n l)
+        | no l ↦ lt-ltb i (n + 1) (omega arith) ∙ sym (lt-ltb i n (omega arith))
+      ]
+      in
+      ap (λ (x : Bool). x && set i) same
+
+  pub collect-in : n < places → b ≡ true → (r : ℕ) → r ≡ insert s n → Collects (n + 1) set r
+  collect-in l e r x i = elim (ℕ-discrete i n) [
+    | yes g ↦
+        let own : has (insert s n) n ≡ true = has-insert s n n l ∙ ap (λ (y : Bool). has s n || y) (eq-eqb n n refl) ∙ or-true (has s n) in
+        let here : (ltb n (n + 1) && set n) ≡ true = ap₂ _&&_ (lt-ltb n (n + 1) (omega arith)) (sym test ∙ e) in
+        rw (g, x) (own ∙ sym here)
+    | no g ↦
+        rw x (has-insert s n i l ∙ ap (λ (y : Bool). has s i || y) (ne-eqb n i (λ z. g (sym z))) ∙ or-false (has s i) ∙ C i ∙ sym (elsewhere i g))
+  ]
+
+  pub collect-out : b ≡ false → (r : ℕ) → r ≡ s → Collects (n + 1) set r
+  collect-out e r x i = elim (ℕ-discrete i n) [
+    | yes g ↦
+        let now : (ltb n n && set n) ≡ false = ap (λ (y : Bool). y && set n) (le-ltb n n (omega arith)) in
+        let then : (ltb n (n + 1) && set n) ≡ false = ap₂ _&&_ (lt-ltb n (n + 1) (omega arith)) (sym test ∙ e) in
+        rw (g, x) (C n ∙ now ∙ sym then)
+    | no g ↦ rw x (C i ∙ sym (elsewhere i g))
+  ]
 
 -- ---- numbers and members
 

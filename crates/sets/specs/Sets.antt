@@ -5,7 +5,7 @@ use mathlib.Core.Path.{_≡_}
 use mathlib.Core.Bool.{Bool, true, not, _&&_}
 use lib.Bits.{bitAnd, bitOr}
 use lib.Count.{ones, trailingZeros}
-use lib.Dec.{eqb}
+use lib.Dec.{eqb, ltb}
 
 -- A set of jobs, as a test on places.
 abbrev pub Set : Type 0
@@ -64,3 +64,7 @@ both r s i = r i && s i
 -- The jobs of r that are not in s.
 abbrev pub but : Set → Set → Set
 but r s i = r i && not (s i)
+
+-- The number s has exactly those places of the set that are below n.
+abbrev pub Collects : ℕ → Set → ℕ → Type 0
+Collects n set s = (i : ℕ) → has s i ≡ (ltb i n && set i)

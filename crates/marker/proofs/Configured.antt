@@ -1,0 +1,88 @@
+-- Laws of the bounds of a configuration. Assumes nothing.
+use Prim.Native.Nat.{ℕ, suc, _≤_, _<_}
+use mathlib.Core.Path.{_≡_, refl, sym, ap, ap₂, _∙_}
+use mathlib.Core.Bool.{Bool, true, false, _&&_}
+use mathlib.Core.List.{List}
+use native.Mathlib.Decide.{decLe}
+use native.Mathlib.Omega.{arith}
+use lib.Dec.{eqb, ltb}
+use lib.ListN.{length, getD, take, List·getD-eq-default}
+use lib.Seq.{length-take-le}
+use borrow.Author.Tests.{eq-eqb, ne-eqb, lt-ltb, le-ltb}
+use Rattle.sets.specs.Places.{every}
+use Rattle.sets.specs.Sets.{has, Collects}
+use Rattle.sets.proofs.Places.{list-at, list-length, list-same, every-same}
+use Rattle.records.specs.declared.job.Job.{Job}
+use Rattle.configuration.specs.declared.setting.Setting.{Setting}
+use Rattle.configuration.specs.Settings.{blankSetting, settingAt, levelAt}
+use Rattle.response.specs.Demand.{bound}
+use Rattle.response.specs.Search.{workload, boundBy}
+use Rattle.response.proofs.Easier.{bound-same, bound-take}
+use Rattle.response.proofs.Utilisation.{bound-found}
+use Rattle.response.specs.declared.workload.Workload.{Workload}
+use Rattle.marker.specs.Bounds.{quantaOf, layerOf, aboveOf, boundAt, boundsOf, isPlaced}
+
+-- ---- a job's bound, by its level
+
+module _ (jobs : List Job) (settings : List Setting) (k : ℕ) where
+  pub bound-unplaced : levelAt settings k ≡ 0 → boundAt jobs settings k ≡ 0
+  unfolding boundAt
+  bound-unplaced e = rw (eq-eqb (levelAt settings k) 0 e, boundAt)
+
+  pub bound-placed : (levelAt settings k ≡ 0 → ⊥)
+      → boundAt jobs settings k ≡ bound jobs (quantaOf settings) (layerOf settings (levelAt settings k)) (aboveOf settings (levelAt settings k)) k
+  unfolding boundAt
+  bound-placed e = rw (ne-eqb (levelAt settings k) 0 e, boundAt)
+
+pub quantum-at : (settings : List Setting) (i : ℕ) → getD (quantaOf settings) i 0 ≡ settingAt settings i .quantum
+quantum-at settings i = elim (decLe (suc i) (length settings)) [
+  | yes l ↦ list-at (λ j. settingAt settings j .quantum) (length settings) i 0 l
+  | no l ↦
+      let past : length settings ≤ i = omega arith in
+      let short : length (quantaOf settings) ≤ i = omega (arith, list-length (λ j. settingAt settings j .quantum) (length settings)) in
+      List·getD-eq-default (quantaOf settings) 0 short ∙ sym (ap (λ (s : Setting). s .quantum) (List·getD-eq-default settings blankSetting past))
+]
+
+-- ---- the bounds see a table as they see the list that it begins with
+
+module _ (jobs : List Job) (a b : List Setting) (same : (i : ℕ) → i < length jobs → settingAt a i ≡ settingAt b i) where
+  level-same : (i : ℕ) → i < length jobs → levelAt a i ≡ levelAt b i
+  level-same i l = ap (λ (s : Setting). s .level) (same i l)
+
+  quantum-same : (i : ℕ) → i < length jobs → getD (quantaOf a) i 0 ≡ getD (quantaOf b) i 0
+  quantum-same i l = quantum-at a i ∙ ap (λ (s : Setting). s .quantum) (same i l) ∙ sym (quantum-at b i)
+
+  pub bound-settings : (k : ℕ) → k < length jobs → boundAt jobs a k ≡ boundAt jobs b k
+  unfolding boundAt
+  bound-settings k l =
+      ap₂ (λ (v x : ℕ). elim (eqb v 0) [ true ↦ 0 | false ↦ x ]) (level-same k l)
+      (bound-same jobs k (quantaOf a) (quantaOf b) (layerOf a (levelAt a k)) (layerOf b (levelAt b k)) (aboveOf a (levelAt a k)) (aboveOf b (levelAt b k))
+      (quantum-same k l) (λ i il e. quantum-same i il) (λ i il. ap₂ eqb (level-same i il) (level-same k l)) (λ i il. ap₂ ltb (level-same i il) (level-same k l)))
+
+  pub bounds-settings : boundsOf jobs a ≡ boundsOf jobs b
+  bounds-settings = list-same (boundAt jobs a) (boundAt jobs b) (length jobs) bound-settings
+
+  pub placed-settings : every (isPlaced a) (length jobs) ≡ every (isPlaced b) (length jobs)
+  placed-settings = every-same (isPlaced a) (isPlaced b) (length jobs) (λ i l. ap (λ (s : Setting). ltb 0 (s .policy)) (same i l))
+
+-- ---- the bound as the code finds it, from the numbers of the layer and of the set above
+
+module _ (w : Workload) (whole : w ≡ workload (w .jobs)) (settings : List Setting) (n k : ℕ) (size : n ≤ length (w .jobs)) (kn : k < n) (level : ℕ) (own : level ≡ levelAt settings k)
+    (layer above : ℕ) (layer-is : Collects n (layerOf settings level) layer) (above-is : Collects n (aboveOf settings level) above)
+  where
+    past : (i : ℕ) (x : Bool) → n ≤ i → (ltb i n && x) ≡ false
+    past i x l = ap (λ (b : Bool). b && x) (le-ltb i n l)
+
+    here : (i : ℕ) (x : Bool) → i < length (take n (w .jobs)) → (ltb i n && x) ≡ x
+    here i x l = ap (λ (b : Bool). b && x) (lt-ltb i n (omega (arith, length-take-le n (w .jobs) size)))
+
+    pub bound-code : (level ≡ 0 → ⊥) → boundBy w (quantaOf settings) (has layer) (has above) k ≡ boundAt (take n (w .jobs)) settings k
+    bound-code e =
+        let jobs = take n (w .jobs) in
+        let v = levelAt settings k in
+        ap (λ (x : Workload). boundBy x (quantaOf settings) (has layer) (has above) k) whole
+        ∙ bound-found (w .jobs) (quantaOf settings) (has layer) (has above) k
+        ∙ bound-take n (w .jobs) (quantaOf settings) (has layer) (has above) k size kn (λ i l. layer-is i ∙ past i _ l) (λ i l. above-is i ∙ past i _ l)
+        ∙ bound-same jobs k (quantaOf settings) (quantaOf settings) (has layer) (layerOf settings v) (has above) (aboveOf settings v) refl (λ i l x. refl)
+        (λ i l. layer-is i ∙ here i _ l ∙ ap (λ (x : ℕ). layerOf settings x i) own) (λ i l. above-is i ∙ here i _ l ∙ ap (λ (x : ℕ). aboveOf settings x i) own)
+        ∙ sym (bound-placed jobs settings k (λ z. e (own ∙ z)))

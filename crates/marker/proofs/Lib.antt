@@ -1,0 +1,4 @@
+pub mod Configured
+pub mod HandIn
+pub mod Verdicts
+pub mod Worked

@@ -1,0 +1,94 @@
+// The bounds of a configuration's jobs, by their levels.
+ghost use mathlib.Core.Path.{_≡_};
+ghost use Prim.Native.Nat.{_≤_, _<_};
+ghost use lib.ListN.{take};
+ghost use Rattle.sets.specs.Sets.{Collects};
+ghost use Rattle.records.specs.Limits.{mostJobs};
+ghost use Rattle.records.specs.Records.{table};
+ghost use Rattle.response.specs.Search.{workload};
+ghost use Rattle.marker.specs.Bounds.{quantaOf, boundAt, boundsOf};
+ghost use Rattle.marker.specs.Relations.{standing, stands};
+use configuration::setting::Setting;
+use records::job::Job;
+use response::workload::Workload;
+
+// How a level stands to another.
+pub enum Relation {
+    Same,
+    Above,
+}
+
+// Whether a level stands so to another; the smaller level is above.
+fn stands(relation: Relation, level: u8, to: u8) -> bool
+    ensures { λ r. ⌜ r ≡ standing relation level to ⌝ }
+{
+    match relation {
+        Relation::Same => level == to,
+        Relation::Above => level < to,
+    }
+}
+
+// The set of the first n jobs whose level stands so to another.
+fn level_set(relation: Relation, settings: [Setting; Job::MOST], n: usize, level: u8) -> u8
+    requires { ⌜ n ≤ mostJobs ⌝ }
+    ensures { λ r. ⌜ Collects n (stands relation settings level) r ⌝ }
+{
+    let mut set: u8 = 0;
+    let mut i = 0;
+    while i < n {
+        let setting = settings[i];
+        if stands(relation, setting.level, level) {
+            let more = sets::insert(set, i);
+            set = more;
+        }
+        i += 1;
+    }
+    set
+}
+
+// The quanta of a configuration.
+fn quanta_of(settings: [Setting; Job::MOST]) -> [u8; Job::MOST]
+    ensures { λ r. ⌜ r ≡ quantaOf settings ⌝ }
+{
+    let mut quanta = [0u8; Job::MOST];
+    let mut i = 0;
+    while i < Job::MOST {
+        let setting = settings[i];
+        quanta[i] = setting.quantum;
+        i += 1;
+    }
+    quanta
+}
+
+// The bound of the job at place k of n.
+fn bound_of(workload: Workload, settings: [Setting; Job::MOST], n: usize, k: usize) -> u16
+    requires { ⌜ (n ≤ mostJobs) × (k < n) × (workload ≡ Rattle.response.specs.Search.workload (workload .jobs)) ⌝ }
+    ensures { λ r. ⌜ r ≡ boundAt (take n (workload .jobs)) settings k ⌝ }
+{
+    let setting = settings[k];
+    let level = setting.level;
+    if level == 0 {
+        return 0;
+    }
+    let layer = level_set(Relation::Same, settings, n, level);
+    let above = level_set(Relation::Above, settings, n, level);
+    workload.bound(quanta_of(settings), layer, above, k)
+}
+
+// The bounds of n jobs.
+pub(crate) fn bounds_of(
+    workload: Workload,
+    settings: [Setting; Job::MOST],
+    n: usize,
+) -> [u16; Job::MOST]
+    requires { ⌜ (n ≤ mostJobs) × (workload ≡ Rattle.response.specs.Search.workload (workload .jobs)) ⌝ }
+    ensures { λ r. ⌜ r ≡ table mostJobs 0 (boundsOf (take n (workload .jobs)) settings) ⌝ }
+{
+    let mut bounds = [0u16; Job::MOST];
+    let mut k = 0;
+    while k < n {
+        bounds[k] = bound_of(workload, settings, n, k);
+        k += 1;
+    }
+    bounds
+}
