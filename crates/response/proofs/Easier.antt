@@ -10,7 +10,7 @@ use lib.Dec.{eqb}
 use lib.ListN.{length, getD, take}
 use lib.Seq.{getD-take, length-take-le}
 use borrow.Author.Tests.{eqb-false, not-true}
-use Rattle.sets.specs.Sets.{Set, Sub}
+use Rattle.sets.specs.Sets.{Set, Sub, Alone}
 use Rattle.sets.specs.Places.{sumOver}
 use Rattle.sets.proofs.Places.{over-mono, over-same, over-zero, over-cut}
 use Rattle.records.specs.Jobs.{blankJob, jobAt}
@@ -52,10 +52,6 @@ others-same n k q q′ s s′ h l =
     over-same n (λ i. s i && not (eqb i k)) (λ i. s′ i && not (eqb i k)) _ _
     (λ i il. ap (λ (b : Bool). b && not (eqb i k)) (h i il))
     (λ i il e. let w = other s′ k i e in l i il (w .0) (w .1))
-
--- The job k alone makes up the set s.
-abbrev pub Alone : ℕ → Set → ℕ → Type 0
-Alone n s k = (i : ℕ) → i < n → s i ≡ true → i ≡ k
 
 others-alone : (n k : ℕ) (q : List ℕ) (s : Set) → Alone n s k → otherQuanta n q s k ≡ 0
 unfolding otherQuanta

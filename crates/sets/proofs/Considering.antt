@@ -32,13 +32,13 @@ module _ (takeable : ℕ → Bool) where
   first-miss s sets e = (rw (e, firstTaken), rw (e, considered))
 
   -- None can be taken: each fails, and all are considered.
-  record Tried (sets : List ℕ) : Type 0 where
+  pub record Tried (sets : List ℕ) : Type 0 where
     pub first : firstTaken takeable sets ≡ 0
     pub each : (s : ℕ) → List·Memᴰ s sets → takeable s ≡ false
     pub all : considered takeable sets ≡ sets
 
   -- One is taken: it stands after sets that cannot be taken, and these and it are considered.
-  record Took (sets : List ℕ) : Type 0 where
+  pub record Took (sets : List ℕ) : Type 0 where
     pub set : ℕ
     pub before : List ℕ
     pub after : List ℕ
@@ -47,7 +47,7 @@ module _ (takeable : ℕ → Bool) where
     pub split : sets ≡ before ++ (set ∷ after)
     pub count : length (considered takeable sets) ≡ suc (length before)
 
-  tried-or-took : (sets : List ℕ) → Tried sets ⊎ Took sets
+  pub tried-or-took : (sets : List ℕ) → Tried sets ⊎ Took sets
   unfolding firstTaken considered
   tried-or-took [] = inl (record { first = refl; each = λ s t. absurd (List·Memᴰ·not-nil t); all = refl })
   tried-or-took (s ∷ sets) = go (takeable s) refl (tried-or-took sets)

@@ -65,6 +65,10 @@ both r s i = r i && s i
 abbrev pub but : Set → Set → Set
 but r s i = r i && not (s i)
 
+-- The job k, and no other below n, makes up the set s.
+abbrev pub Alone : ℕ → Set → ℕ → Type 0
+Alone n s k = (i : ℕ) → i < n → s i ≡ true → i ≡ k
+
 -- The number s has exactly those places of the set that are below n.
 abbrev pub Collects : ℕ → Set → ℕ → Type 0
 Collects n set s = (i : ℕ) → has s i ≡ (ltb i n && set i)

@@ -1,0 +1,10 @@
+pub mod Worked
+pub mod Smallest
+pub mod Serving
+pub mod Taking
+pub mod Optimal
+pub mod Plays
+pub mod Placed
+pub mod Planned
+pub mod AnyPlay
+pub mod Settling

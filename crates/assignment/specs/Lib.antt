@@ -1,0 +1,4 @@
+pub mod Takeable
+pub mod Plan
+pub mod Guarantee
+pub mod Layers

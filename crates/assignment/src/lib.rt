@@ -1,0 +1,1 @@
+// The planner's rule and its guarantee: definitions and theorems, no code.
