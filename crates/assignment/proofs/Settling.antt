@@ -1,9 +1,10 @@
 -- The recursion over a layer's jobs that settles their quanta, step by step. Assumes nothing.
-use Prim.Native.Nat.{ℕ, suc, _+_, _≤_, _<_}
+use Prim.Native.Nat.{ℕ, suc, _+_, _-_, _≤_, _<_}
 use mathlib.Core.Path.{_≡_, refl, sym, ap, _∙_}
 use mathlib.Core.Bool.{Bool, true, false, cond, false≢true}
 use mathlib.Core.List.{List}
 use mathlib.Core.Option.{Option, none, some}
+use native.Mathlib.Nat.{le-refl}
 use native.Mathlib.Numerals.{add-one}
 use native.Mathlib.Decide.{ℕ-discrete, decLe}
 use native.Mathlib.Omega.{arith}
@@ -14,7 +15,7 @@ use Rattle.records.specs.declared.job.Job.{Job}
 use Rattle.response.specs.Demand.{bound}
 use Rattle.response.proofs.Easier.{bound-same}
 use Rattle.assignment.specs.Plan.{smallest, quantumRanges, serves}
-use Rattle.assignment.specs.Layers.{Fits, Low, Standing, Settled, Hopeless, Settles}
+use Rattle.assignment.specs.Layers.{Fits, Low, Standing, Hopeless, Raised, Raises, Settled, Settles}
 use Rattle.assignment.proofs.Serving.{Costs, in-range, ranged-fits, raise, settled, hopeless}
 
 module _ (jobs : List Job) (costs : Costs jobs) (low high : ℕ) (lp : 0 < low) (layer above : Set) where
@@ -45,6 +46,17 @@ module _ (jobs : List Job) (costs : Costs jobs) (low high : ℕ) (lp : 0 < low) 
     pub past-highest : high ≤ getD q k 0 → Hopeless jobs low high layer above
     past-highest h = hopeless jobs costs low high lp layer above q k kn kl unserved h (λ w f served i il x d. S .least w f served i)
 
+  pub raised-none : (k : ℕ) (q : List ℕ) → Stands q → Raised jobs low high layer above k q q
+  raised-none k q S = record { standing = S; kept = λ i d. refl; rises = le-refl (getD q k 0) }
+
+  pub raised-next : (k : ℕ) → k < n → layer k ≡ true → (before q : List ℕ) → Raised jobs low high layer above k before q
+      → (0 < bound jobs q layer above k → ⊥) → getD q k 0 < high → Raised jobs low high layer above k before (set q k (getD q k 0 + 1))
+  raised-next k kn kl before q R unserved h = record {
+    standing = raised k kn kl q (R .standing) unserved h;
+    kept = λ i d. getD-set-other q k i (getD q k 0 + 1) 0 d ∙ R .kept i d;
+    rises = rw (getD-set-same q k (getD q k 0 + 1) 0 (omega (arith, R .standing .long))) (omega (arith, R .rises));
+  }
+
   -- ---- the pending jobs
 
   -- None is pending.
@@ -55,24 +67,46 @@ module _ (jobs : List Job) (costs : Costs jobs) (low high : ℕ) (lp : 0 < low) 
   pub says-fails : (pending pending′ : Set) (v v′ : List ℕ) (b : Bool) (u u′ : List ℕ) → b ≡ false → Says pending v b u → Says pending′ v′ b u′
   says-fails pending pending′ v v′ b u u′ e x = rw e (rw e at x)
 
-  pub says-hopeless : (pending : Set) (v : List ℕ) (b : Bool) (u : List ℕ) → b ≡ false → Hopeless jobs low high layer above → Says pending v b u
-  says-hopeless pending v b u e h = rw e h
+  pub raise-fails : (k : ℕ) (q : List ℕ) (pending : Set) (v : List ℕ) (b : Bool) (u : List ℕ) → b ≡ false → Raises jobs low high layer above k q b u → Says pending v b u
+  raise-fails k q pending v b u e x = rw e (rw e at x)
+
+  pub raises-raised : (k : ℕ) (q : List ℕ) (b : Bool) (u : List ℕ) → b ≡ true → Raises jobs low high layer above k q b u
+      → Raised jobs low high layer above k q u × (0 < bound jobs u layer above k)
+  raises-raised k q b u e x = rw e at x
+
+  pub says-ends : (pending : Set) (v : List ℕ) (b : Bool) (u : List ℕ) → b ≡ true → Settled jobs low high layer above pending v u → Says pending v b u
+  says-ends pending v b u e x = rw e x
 
   pub says-settled : (pending : Set) (v : List ℕ) (b : Bool) (u : List ℕ) → b ≡ true → Says pending v b u → Settled jobs low high layer above pending v u
   says-settled pending v b u e x = rw e at x
 
-  -- The job k is pending with the set after it; v is where the quanta stood, now is where the others were settled from, and they came
-  -- to u, where the job k is served.
-  pub says-served : (k : ℕ) (pending after : Set) → ((i : ℕ) → pending i ≡ true → (i ≡ k → ⊥) → after i ≡ true) → ((i : ℕ) → pending i ≡ false → after i ≡ false)
-      → (v now : List ℕ) → ((i : ℕ) → pending i ≡ false → getD now i 0 ≡ getD v i 0) → (b : Bool) (u : List ℕ) → b ≡ true → Says after now b u
-      → 0 < bound jobs u layer above k → Says pending v b u
-  says-served k pending after inside outside v now same b u found S p =
-      let T = says-settled after now b u found S in
-      rw found (record {
+  -- One turn: the job k is pending with the set after it; v is where the quanta stood at first, now is where the jobs after were
+  -- settled from, they came to u, and the job's own quantum was then raised to w.
+  module _ (k : ℕ) (kn : k < n) (kl : layer k ≡ true) (pending after : Set) (own : pending k ≡ true) (off : after k ≡ false)
+      (inside : (i : ℕ) → pending i ≡ true → (i ≡ k → ⊥) → after i ≡ true) (outside : (i : ℕ) → pending i ≡ false → after i ≡ false)
+      (v now : List ℕ) (same : (i : ℕ) → pending i ≡ false → getD now i 0 ≡ getD v i 0) (u : List ℕ) (T : Settled jobs low high layer above after now u)
+      (w : List ℕ) (R : Raised jobs low high layer above k u w) (served : 0 < bound jobs w layer above k)
+    where
+      -- It stayed: all that were pending are settled.
+      pub turn-ends : getD w k 0 ≡ getD u k 0 → Settled jobs low high layer above pending v u
+      turn-ends e = record {
         standing = T .standing;
-        kept = λ i e. T .kept i (outside i e) ∙ same i e;
-        served = λ i l e. elim (ℕ-discrete i k) [ yes x ↦ rw x p | no x ↦ T .served i l (inside i e x) ];
-      })
+        kept = λ i x. T .kept i (outside i x) ∙ same i x;
+        served = λ i l x. elim (ℕ-discrete i k) [ yes y ↦ rw y still | no y ↦ T .served i l (inside i x y) ];
+      }
+        where
+          all : (i : ℕ) → getD w i 0 ≡ getD u i 0
+          all i = elim (ℕ-discrete i k) [ yes y ↦ rw y e | no y ↦ R .kept i y ]
+
+          still : 0 < bound jobs u layer above k
+          still = rw (bound-same jobs k w u layer layer above above (all k) (λ i il x. all i) (λ i il. refl) (λ i il. refl)) at served
+
+      -- It rose: the next turn starts from there.
+      pub turn-goes : (i : ℕ) → pending i ≡ false → getD w i 0 ≡ getD v i 0
+      turn-goes i x = R .kept i (λ y. false≢true (sym x ∙ ap pending y ∙ own)) ∙ T .kept i (outside i x) ∙ same i x
+
+      pub turn-less : (getD w k 0 ≡ getD u k 0 → ⊥) → high - getD w k 0 < high - getD now k 0
+      turn-less d = omega (arith, T .kept k off, R .rises, R .standing .inRange k kn kl .1)
 
   -- ---- from the lowest quanta
 

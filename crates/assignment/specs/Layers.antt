@@ -33,15 +33,26 @@ pub record Standing (jobs : List Job) (low high : ℕ) (layer above : Set) (quan
   pub zero : (i : ℕ) → i < length jobs → layer i ≡ false → getD quanta i 0 ≡ 0
   pub least : Low jobs low high layer above quanta
 
+-- No quanta serve the layer.
+abbrev pub Hopeless : List Job → ℕ → ℕ → Set → Set → Type 0
+Hopeless jobs low high layer above = smallest (quantumRanges low high layer (length jobs)) (serves jobs layer above) ≡ none
+
+-- Only the quantum of the job k was raised.
+pub record Raised (jobs : List Job) (low high : ℕ) (layer above : Set) (k : ℕ) (before after : List ℕ) : Type 0 where
+  pub standing : Standing jobs low high layer above after
+  pub kept : (i : ℕ) → (i ≡ k → ⊥) → getD after i 0 ≡ getD before i 0
+  pub rises : getD before k 0 ≤ getD after k 0
+
+-- What raising answers: found and served, or hopeless.
+abbrev pub Raises : List Job → ℕ → ℕ → Set → Set → ℕ → List ℕ → Bool → List ℕ → Type 0
+Raises jobs low high layer above k before true after = Raised jobs low high layer above k before after × (0 < bound jobs after layer above k)
+Raises jobs low high layer above k before false after = Hopeless jobs low high layer above
+
 -- The pending jobs are served, and only their quanta were raised.
 pub record Settled (jobs : List Job) (low high : ℕ) (layer above pending : Set) (before after : List ℕ) : Type 0 where
   pub standing : Standing jobs low high layer above after
   pub kept : (i : ℕ) → pending i ≡ false → getD after i 0 ≡ getD before i 0
   pub served : (k : ℕ) → k < length jobs → pending k ≡ true → 0 < bound jobs after layer above k
-
--- No quanta serve the layer.
-abbrev pub Hopeless : List Job → ℕ → ℕ → Set → Set → Type 0
-Hopeless jobs low high layer above = smallest (quantumRanges low high layer (length jobs)) (serves jobs layer above) ≡ none
 
 -- What settling answers: found and settled, or hopeless.
 abbrev pub Settles : List Job → ℕ → ℕ → Set → Set → Set → List ℕ → Bool → List ℕ → Type 0

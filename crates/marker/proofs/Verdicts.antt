@@ -1,10 +1,9 @@
 -- A full configuration passes exactly if no bound is 0, and the marker says so (demand 2's second sentence). Assumes nothing.
 use Prim.Native.Nat.{ℕ, _<_}
-use mathlib.Core.Path.{_≡_, refl, sym, ap, ap₂, subst, _∙_}
+use mathlib.Core.Path.{_≡_, refl, sym, ap, ap₂, _∙_}
 use mathlib.Core.Bool.{Bool, true, _&&_, and-eq-true-iff}
-use mathlib.Core.List.{List, _∷_, _++_}
+use mathlib.Core.List.{List, _∷_}
 use mathlib.Core.Logic.{_↔_}
-use native.Mathlib.Decide.{ℕ-discrete}
 use native.Mathlib.Omega.{arith}
 use lib.ListN.{length}
 use borrow.Author.Tests.{ltb-true, lt-ltb}
@@ -13,7 +12,6 @@ use Rattle.records.specs.Refusals.{Answer, given, Accepts}
 use Rattle.records.specs.Jobs.{jobCount, jobList}
 use Rattle.records.specs.declared.job.Job.{Job}
 use Rattle.records.proofs.Outcomes.{accepted, accepts, gives, accepts-second}
-use Rattle.records.proofs.Reading.{jobs-listed}
 use Rattle.configuration.specs.declared.setting.Setting.{Setting}
 use Rattle.configuration.specs.Blocks.{readTests}
 use Rattle.marker.specs.Bounds.{boundAt, full, isServed, passes}

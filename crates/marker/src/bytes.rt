@@ -6,10 +6,8 @@ ghost use lib.ListN.{length, drop};
 ghost use Rattle.records.specs.Limits.{mostJobs};
 ghost use Rattle.records.specs.Records.{wordBytes};
 ghost use Rattle.marker.specs.Marks.{boundSize, boundsWritten};
+use crate::block;
 use records::job::Job;
-
-// The size of a bound, in bytes.
-pub(crate) const SIZE: usize = 2;
 
 // Writes a bound to the first bytes of an output, the high byte first.
 fn put_bound(output: &mut [u8], bound: u16)
@@ -28,7 +26,7 @@ pub(crate) fn encode(bounds: [u16; Job::MOST], n: usize, output: &mut [u8])
     let mut i = 0;
     while i < n {
         let bound = bounds[i];
-        put_bound(&mut output[SIZE * i..], bound);
+        put_bound(&mut output[block::BOUND_SIZE * i..], bound);
         i += 1;
     }
 }

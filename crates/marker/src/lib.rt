@@ -67,7 +67,7 @@ pub fn bounds(
     if let ConfigurationAnswer::Refused(refusal) = judged {
         return BoundsAnswer::Refused(refusal);
     }
-    if output.len() < bytes::SIZE * n {
+    if output.len() < block::BOUND_SIZE * n {
         return BoundsAnswer::Refused(Refusal::OutputLength);
     }
     let settings = hand_in.table;
@@ -94,7 +94,7 @@ pub fn mark(jobs: &[u8], low: u8, high: u8, configuration: &[u8], output: &mut [
     if !passing::is_full(settings, n) {
         return MarkAnswer::Refused(Refusal::NotPlaced);
     }
-    if output.len() < bytes::SIZE * n {
+    if output.len() < block::BOUND_SIZE * n {
         return MarkAnswer::Refused(Refusal::OutputLength);
     }
     let values = put_bounds(table, settings, n, &mut *output);

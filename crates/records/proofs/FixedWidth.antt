@@ -5,11 +5,12 @@ use mathlib.Core.Path.{_≡_, refl, sym, ap, _∙_}
 use mathlib.Core.List.{List, [], _∷_, _++_, append-assoc, append-nil}
 use native.Mathlib.Numerals.{add-one}
 use native.Mathlib.Nat.{mul-suc, mul-zero, add-comm, zero-add}
+use native.Mathlib.Decide.{decLe}
 use native.Mathlib.Omega.{arith}
-use lib.ListN.{length, getD, take, drop, set, replicate, length-append, length-drop, drop-of-length-le, List·getD-append}
-use lib.Seq.{drop-cons, drop-drop, set-at, append-snoc, take-all, take-at, drop-at, take-suc, take-add, length-take-le, getD-append-add}
+use lib.ListN.{length, getD, take, drop, set, replicate, length-append, length-drop, drop-of-length-le, List·getD-append, List·getD-eq-default, length-replicate}
+use lib.Seq.{ext-getD, drop-cons, drop-drop, set-at, append-snoc, take-all, take-at, drop-at, take-suc, take-add, length-take-le, getD-append-add}
 use Rattle.sets.specs.Places.{listOf}
-use Rattle.sets.proofs.Places.{list-suc, list-length}
+use Rattle.sets.proofs.Places.{list-suc, list-length, list-at}
 use Rattle.records.specs.Records.{word, wordBytes, flat, chunks, table}
 
 -- ---- lists of records
@@ -71,6 +72,26 @@ list-next f k i z t a h e g = rw (e, g, add-one i, list-suc f i) (fill-next k i 
 
 pub table-full : {A : Type 0} (k : ℕ) (z : A) (xs : List A) → length xs ≡ k → table k z xs ≡ xs
 table-full k z xs e = let none : k - length xs ≡ 0 = omega arith in rw none (append-nil xs)
+
+-- Blank entries make a blank table.
+pub table-blank : {A : Type 0} (k n : ℕ) (z : A) → n ≤ k → table k z (listOf (λ i. z) n) ≡ replicate k z
+table-blank {A} k n z h =
+    let xs : List A = listOf (λ (i : ℕ). z) n in
+    let long : length xs ≡ n = list-length (λ (i : ℕ). z) n in
+    ext-getD z (table k z xs) (replicate k z)
+    (length-append xs (replicate (k - length xs) z) ∙ omega (arith, length-replicate (k - length xs) z, length-replicate k z))
+    (λ i l. table-at z xs (k - length xs) i ∙ blank i ∙ sym (blanks k i))
+  where
+    blanks : (m i : ℕ) → getD (replicate m z) i z ≡ z
+    blanks zero i = refl
+    blanks (suc m) zero = refl
+    blanks (suc m) (suc i) = blanks m i
+
+    blank : (i : ℕ) → getD (listOf (λ (j : ℕ). z) n) i z ≡ z
+    blank i = elim (decLe (suc i) n) [
+      | yes l ↦ list-at (λ (j : ℕ). z) n i z l
+      | no l ↦ let short : length (listOf (λ (j : ℕ). z) n) ≤ i = omega (arith, list-length (λ (j : ℕ). z) n) in List·getD-eq-default (listOf (λ (j : ℕ). z) n) z short
+    ]
 
 pub take-table : {A : Type 0} (k : ℕ) (z : A) (n : ℕ) (xs : List A) → length xs ≡ n → take n (table k z xs) ≡ xs
 take-table k z n xs e = take-at xs _ n e

@@ -22,11 +22,11 @@ use Rattle.sets.proofs.Counting.{one, between, sum-one, sum-out, count-
 -- ---- the first set that can be taken, and those considered
 
 module _ (takeable : ℕ → Bool) where
-  first-hit : (s : ℕ) (sets : List ℕ) → takeable s ≡ true → (firstTaken takeable (s ∷ sets) ≡ s) × (considered takeable (s ∷ sets) ≡ s ∷ [])
+  pub first-hit : (s : ℕ) (sets : List ℕ) → takeable s ≡ true → (firstTaken takeable (s ∷ sets) ≡ s) × (considered takeable (s ∷ sets) ≡ s ∷ [])
   unfolding firstTaken considered
   first-hit s sets e = (rw (e, firstTaken), rw (e, considered))
 
-  first-miss : (s : ℕ) (sets : List ℕ) → takeable s ≡ false
+  pub first-miss : (s : ℕ) (sets : List ℕ) → takeable s ≡ false
       → (firstTaken takeable (s ∷ sets) ≡ firstTaken takeable sets) × (considered takeable (s ∷ sets) ≡ s ∷ considered takeable sets)
   unfolding firstTaken considered
   first-miss s sets e = (rw (e, firstTaken), rw (e, considered))
@@ -68,6 +68,16 @@ module _ (takeable : ℕ → Bool) where
         split = ap (λ (l : List ℕ). s ∷ l) (w .split);
         count = ap length (first-miss s sets e .1) ∙ ap suc (w .count);
       })
+
+-- The set taken lies within the set left.
+pub first-le : (takeable : ℕ → Bool) (left : ℕ) (sequence : List ℕ) → firstTaken takeable (subsets left sequence) ≤ left
+unfolding subsets
+first-le takeable left sequence = ⊎-elim
+    (λ w. omega (arith, w .first))
+    (λ w.
+    let listed = keep-out (λ s. within s left) sequence (w .set) (rw (w .split) (Memᴰ·append-right (w .before) (List·Memᴰ·head refl))) in
+    omega (arith, w .first, within-le (w .set) left (listed .1)))
+    (tried-or-took takeable (subsets left sequence))
 
 -- ---- one level
 

@@ -7,3 +7,4 @@ pub mod Walk
 pub mod Ordering
 pub mod Counting
 pub mod Considering
+pub mod Searching

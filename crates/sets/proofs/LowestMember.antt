@@ -1,6 +1,7 @@
--- The lowest member of a set is a member, and none is below it; a set without one of its members is smaller by one. Assumes nothing.
+-- The lowest member of a set is a member, and none is below it; a set without one of its members is smaller by one, and has the
+-- others. Assumes nothing.
 use mathlib.Core.Path.{_≡_, refl, sym, _∙_, ap, subst}
-use mathlib.Core.Bool.{true, false}
+use mathlib.Core.Bool.{Bool, true, false, not, _&&_, and-eq-true-iff, and-false, false≢true}
 use mathlib.Core.Logic.{_⊎_, inl, inr}
 use Prim.Native.Nat.{ℕ, zero, suc, _+_, _/_, _%_, _^_, _<_}
 use native.Mathlib.Nat.{pow-suc, le-of-suc-le-suc}
@@ -9,10 +10,10 @@ use native.Mathlib.Omega.{arith}
 use lib.Count.{trailingZeros, under, trailing-le}
 use lib.Dec.{eqb}
 use lib.Pow.{pow-lt}
-use borrow.Author.Tests.{eqb-true, eq-eqb}
+use borrow.Author.Tests.{eqb-true, eq-eqb, ne-eqb}
 use Rattle.sets.specs.Sets.{places, has, single, remove, within, size, lowest}
-use Rattle.sets.proofs.Members.{has-zero, has-suc, has-single, single-is}
-use Rattle.sets.proofs.Parts.{size-count, size-rest, has-within}
+use Rattle.sets.proofs.Members.{has-zero, has-suc, has-single, has-remove, single-is}
+use Rattle.sets.proofs.Parts.{size-count, size-rest, has-within, within-has}
 use Rattle.sets.proofs.Places.{count-alone}
 
 odd-or-even : (n : ℕ) → (n % 2 ≡ 0) ⊎ (n % 2 ≡ 1)
@@ -66,3 +67,42 @@ size-remove s i l e = omega (arith, size-single i l, size-rest s (single i) insi
     inside =
         has-within places (single i) s (omega (arith, single-is i l, pow-lt l))
         (λ j jl f. ap (has s) (sym (eqb-true i j (sym (has-single i j l) ∙ f))) ∙ e)
+
+-- A set without its lowest member.
+pub record Split (s job after : ℕ) : Type 0 where
+  pub small : job < places
+  pub fewer : size after < size s
+  pub own : has s job ≡ true
+  pub off : has after job ≡ false
+  pub inside : (i : ℕ) → has s i ≡ true → (i ≡ job → ⊥) → has after i ≡ true
+  pub outside : (i : ℕ) → has s i ≡ false → has after i ≡ false
+
+pub split : (s job after : ℕ) → (s ≡ 0 → ⊥) → s < 2 ^ places → job ≡ lowest s → after ≡ remove s job → Split s job after
+split s job after some less ej ea = record {
+  small = small;
+  fewer = omega (arith, ap size ea, size-remove s job small own);
+  own = own;
+  off = at job ∙ ap (λ (b : Bool). has s job && not b) (eq-eqb job job refl) ∙ and-false (has s job);
+  inside = λ i e d. at i ∙ and-eq-true-iff (has s i) (not (eqb job i)) .1 (e, ap not (ne-eqb job i (λ x. d (sym x))));
+  outside = λ i e. at i ∙ ap (λ (b : Bool). b && not (eqb job i)) e;
+}
+  where
+    w : (lowest s < places) × (has s (lowest s) ≡ true)
+    w = lowest-in s (omega arith) less
+
+    small : job < places
+    small = omega (arith, w .0)
+
+    own : has s job ≡ true
+    own = ap (has s) ej ∙ w .1
+
+    at : (i : ℕ) → has after i ≡ (has s i && not (eqb job i))
+    at i = ap (λ (x : ℕ). has x i) ea ∙ has-remove s job i small
+
+-- What is left of a part is still a part.
+pub split-within : (s job after whole : ℕ) → Split s job after → after < 2 ^ places → within s whole ≡ true → within after whole ≡ true
+split-within s job after whole S less w = has-within places after whole less (λ i l e. within-has s whole w i (go i (has s i) refl e))
+  where
+    go : (i : ℕ) (b : Bool) → has s i ≡ b → has after i ≡ true → has s i ≡ true
+    go i true x e = x
+    go i false x e = absurd (false≢true (sym (S .outside i x) ∙ e))

@@ -1,8 +1,9 @@
 -- The table of the code is the order: one computed test over the table. Assumes nothing.
 use Prim.Native.Nat.{ℕ}
-use mathlib.Core.Path.{_≡_, refl}
+use mathlib.Core.Path.{_≡_, refl, sym, ap}
 use mathlib.Core.List.{List, [], _∷_}
 use lib.Count.{ones, onesIn}
+use lib.ListN.{length}
 use Rattle.sets.specs.Sets.{size}
 use Rattle.sets.specs.Order.{range, keep, ofSize, sizesFrom, inOrder, order}
 
@@ -13,3 +14,7 @@ table = 1 ∷ 2 ∷ 4 ∷ 8 ∷ 16 ∷ 32 ∷ 64 ∷ 128 ∷ 3 ∷ 5 ∷ 6 ∷ 9
 pub table-order : table ≡ order
 unfolding table size ones onesIn range keep ofSize sizesFrom inOrder order
 table-order = refl
+
+pub order-length : length order ≡ 255
+unfolding table
+order-length = ap length (sym table-order)

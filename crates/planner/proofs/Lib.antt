@@ -1,0 +1,5 @@
+pub mod Asked
+pub mod Progressing
+pub mod LevelByLevel
+pub mod Answering
+pub mod Promising

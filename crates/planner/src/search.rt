@@ -1,0 +1,47 @@
+// The search for the set that a level takes.
+ghost use Prim.Native.Nat.{_^_, _<_};
+ghost use Rattle.planner.specs.Questions.{Accepted};
+ghost use Rattle.planner.specs.Stages.{Chosen};
+use crate::quanta;
+use crate::quanta::Question;
+use records::job::Job;
+use sets::order::Next;
+
+// The first set that can be taken, with its quanta, and the number of sets considered; the set is 0 where none can be taken.
+pub struct Choice {
+    pub set: u8,
+    pub quanta: [u8; Job::MOST],
+    pub considered: u16,
+}
+
+// Goes through the subsets of the jobs left, in the order of the sets.
+pub(crate) fn choose(question: Question, left: u8) -> Choice
+    requires { ⌜ Accepted question × (left < 2 ^ question .n) ⌝ }
+    ensures { λ r. ⌜ Chosen question left r ⌝ }
+{
+    let sequence = sets::order::in_order();
+    let mut place = 0;
+    let mut considered: u16 = 0;
+    loop {
+        let next = sets::order::next_subset(&sequence[..], left, place);
+        let Next::At(at) = next else {
+            return Choice {
+                set: 0,
+                quanta: [0u8; Job::MOST],
+                considered,
+            };
+        };
+        let set = sequence[at];
+        let answer = quanta::quanta_for(question, left, set);
+        considered += 1;
+        if answer.found {
+            let quanta = answer.quanta;
+            return Choice {
+                set,
+                quanta,
+                considered,
+            };
+        }
+        place = at + 1;
+    }
+}
