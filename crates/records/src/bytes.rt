@@ -5,16 +5,9 @@ ghost use Prim.Native.Nat.{_*_, _≤_};
 ghost use lib.ListN.{length, take, drop};
 ghost use Rattle.sets.specs.Places.{every};
 ghost use Rattle.records.specs.Limits.{mostJobs};
-ghost use Rattle.records.specs.Records.{word};
 ghost use Rattle.records.specs.Jobs.{jobSize, jobOf, jobBytes, secondZero, jobsIn, jobTable, bytesOf};
 use crate::job::Job;
-
-// Two bytes as a number, the high byte first.
-fn word_of(high: u8, low: u8) -> u16
-    ensures { λ r. ⌜ r ≡ word high low ⌝ }
-{
-    (high as u16) * 256 + (low as u16)
-}
+use crate::word::word_of;
 
 // The job in the first bytes of a block.
 fn get_job(block: &[u8]) -> Job

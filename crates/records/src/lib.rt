@@ -6,3 +6,4 @@ mod judge;
 pub mod range;
 pub mod refusal;
 pub mod same;
+pub mod word;
