@@ -19,7 +19,7 @@ use Rattle.sets.specs.Sets.{Set, places, has, size, firstJobs, Alone}
 use Rattle.sets.specs.Order.{BySize, order}
 use Rattle.sets.proofs.Places.{list-at, list-length, every-at, every-of, fails-at}
 use Rattle.sets.proofs.Members.{has-rest, has-full, has-some, has-none}
-use Rattle.sets.proofs.Parts.{size-full}
+use Rattle.sets.proofs.Parts.{rest-lt, size-full}
 use Rattle.sets.proofs.Ordering.{order-in, order-out, by-size}
 use Rattle.sets.proofs.Considering.{jobs-ceiling}
 use Rattle.records.specs.Jobs.{jobAt}
@@ -266,3 +266,8 @@ unfolding plan order
 plan-guaranteed jobs costs few low high lp lh =
     guaranteed jobs costs low high (Permitted (length jobs) low high) (quantaFor jobs low high) (per-job jobs costs low high lp lh) few order order-all
     (Configuration jobs low high) (layers-permitted jobs low high) (configuration jobs low high _) (by-size places)
+
+-- Its placed set is one of the list's jobs.
+pub placed-less : (jobs : List Job) → length jobs ≤ places → (low high : ℕ) → plan jobs low high .placed < 2 ^ length jobs
+unfolding plan start
+placed-less jobs few low high = rest-lt (length jobs) (firstJobs (length jobs)) (planFrom jobs (quantaFor jobs low high) order (length jobs) (start jobs) .left) (start-less jobs few)

@@ -21,27 +21,28 @@ pub(crate) fn choose(question: Question, left: u8) -> Choice
 {
     let sequence = sets::order::in_order();
     let mut place = 0;
-    let mut considered: u16 = 0;
+    let mut missed: u16 = 0;
     loop {
         let next = sets::order::next_subset(&sequence[..], left, place);
         let Next::At(at) = next else {
             return Choice {
                 set: 0,
                 quanta: [0u8; Job::MOST],
-                considered,
+                considered: missed,
             };
         };
         let set = sequence[at];
         let answer = quanta::quanta_for(question, left, set);
-        considered += 1;
         if answer.found {
             let quanta = answer.quanta;
+            let considered = missed + 1;
             return Choice {
                 set,
                 quanta,
                 considered,
             };
         }
+        missed += 1;
         place = at + 1;
     }
 }

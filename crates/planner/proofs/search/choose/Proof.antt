@@ -22,16 +22,17 @@ abbrev takeable : Question → ℕ → ℕ → Bool
 takeable question left s = isFound (finds question left s)
 
 abbrev Inv-loop : tie.InvT-loop
-Inv-loop question left sequence place₀ considered₀ place considered = (considered ≤ place) × (place ≤ length order) × Reached (takeable question left) left order place considered
+Inv-loop question left sequence place₀ missed₀ place missed = Reached (takeable question left) left order place missed × (missed ≤ place) × (place ≤ length order)
 
 abbrev μ-loop : tie.MeasureT-loop
-μ-loop question left sequence place₀ considered₀ place considered = length order - place
+μ-loop question left sequence place₀ missed₀ place missed = length order - place
 
 in-order-requires : tie.Need-in-order-requires Inv-loop μ-loop
 in-order-requires c κs = search needs
 
 loop-holds : tie.Need-loop-holds Inv-loop μ-loop
-loop-holds c = (omega arith, omega arith, reached-none (takeable (c .before .args .question) (c .before .args .left)) (c .before .args .left) order)
+loop-holds c =
+    (reached-none (takeable (c .before .args .question) (c .before .args .left)) (c .before .args .left) order, omega arith, omega arith)
 
 slice-aggregate-next-subset : tie.Need-slice-aggregate-next-subset Inv-loop μ-loop
 slice-aggregate-next-subset c = search needs
@@ -95,10 +96,10 @@ returns c =
     let l = w .before .before in
     let s = start w in
     let a = s .args in
-    let A = reached-end (takeable (a .question) (a .left)) (a .left) order (l .loop .place) (l .loop .considered) (l .loop .inv .2)
+    let A = reached-end (takeable (a .question) (a .left)) (a .left) order (l .loop .place) (l .loop .missed) (l .loop .inv .0)
     (walk-ends order (a .left) (l .loop .place) (sym (walked w) ∙ c .enum-told .given .1))
     in
-    record { set = sym (A .first); quanta = λ p. absurd (omega arith); count = sym (A .count); few = omega (arith, l .loop .inv .0, l .loop .inv .1) }
+    record { set = sym (A .first); quanta = λ p. absurd (omega arith); count = sym (A .count); few = omega (arith, l .loop .inv .1, l .loop .inv .2) }
 
 array-read-set : tie.Need-array-read-set Inv-loop μ-loop
 array-read-set c = omega (arith, step (c .before) .before, order-length)
@@ -111,8 +112,8 @@ quanta-for-requires c κs =
 
 add-considered : tie.Need-add-considered Inv-loop μ-loop
 add-considered c =
-    let l = c .before .before .before .before .before .before in
-    omega (arith, l .loop .inv .0, l .loop .inv .1, order-length)
+    let l = c .before .before .before .before .before .before .before .before in
+    omega (arith, l .loop .inv .1, l .loop .inv .2, order-length)
 
 returns-2 : tie.Need-returns-2 Inv-loop μ-loop
 returns-2 c =
@@ -123,13 +124,18 @@ returns-2 c =
     let a = s .args in
     let f = found q (c .before .if1 .taken) in
     let S = step n in
-    let A = reached-taken (takeable (a .question) (a .left)) (a .left) order (l .loop .place) (l .loop .considered) (l .loop .inv .2) (at n) S (ap isFound f) in
+    let A = reached-taken (takeable (a .question) (a .left)) (a .left) order (l .loop .place) (l .loop .missed) (l .loop .inv .0) (at n) S (ap isFound f) in
     record {
       set = set-is n ∙ sym (A .first);
       quanta = λ p. ap (finds (a .question) (a .left)) (set-is n) ∙ f;
       count = sym (A .count);
-      few = omega (arith, l .loop .inv .0, S .later, S .before);
+      few = omega (arith, l .loop .inv .1, S .later, S .before);
     }
+
+add-missed : tie.Need-add-missed Inv-loop μ-loop
+add-missed c =
+    let l = c .before .before .before .before .before .before .before in
+    omega (arith, l .loop .inv .1, l .loop .inv .2, order-length)
 
 add-place : tie.Need-add-place Inv-loop μ-loop
 add-place c = omega (arith, step (next (c .before)) .before, order-length)
@@ -147,7 +153,7 @@ loop-again c =
     let l = n .before .before .before .before in
     let a = asked q .args in
     let S = step n in
-    (omega (arith, l .loop .inv .0, S .later), omega (arith, S .before), reached-next (takeable (a .question) (a .left)) (a .left) order (l .loop .place) (l .loop .considered) (l .loop .inv .2) (at n) S (missed q (c .if1 .left)))
+    (reached-next (takeable (a .question) (a .left)) (a .left) order (l .loop .place) (l .loop .missed) (l .loop .inv .0) (at n) S (missed q (c .if1 .left)), omega (arith, l .loop .inv .1, S .later), omega (arith, S .before))
 
 pub choose-spec : {M : Type 1} → statement M
 choose-spec =
@@ -166,6 +172,7 @@ choose-spec =
     quanta-for-requires
     add-considered
     returns-2
+    add-missed
     add-place
     loop-less
     loop-again)
