@@ -1,0 +1,23 @@
+use Prim.Native.Nat.{_+_, _≤_}
+use native.Mathlib.Omega.{arith}
+use lib.ListN.{length}
+use Rattle.text.specs.Lines.{decimal}
+use Rattle.text.proofs.Writing.{decimal-short}
+use borrow.Author.Needs.{needs}
+use Rattle.text.proofs.buffer.put_number.Statement.{statement}
+use Rattle.text.proofs.buffer.put_number.Tie as tie
+
+put-digits-requires : tie.Need-put-digits-requires
+put-digits-requires c κs =
+    let s = c .before .before in
+    let h : s .args .at + length (decimal (s .args .n)) ≤ length (s .args .buffer .now) = omega (arith, decimal-short (s .args .n) (s .fits .n .fits)) in
+    h
+
+same-length : tie.Need-same-length
+same-length c = search needs
+
+returns : tie.Need-returns
+returns c = search needs
+
+pub put-number-spec : {M : Type 1} → statement M
+put-number-spec = tie.close (tie.spec put-digits-requires same-length returns)

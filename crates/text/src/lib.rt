@@ -1,0 +1,3 @@
+// The text of the key program.
+mod buffer;
+pub mod key;
