@@ -1,0 +1,3 @@
+pub mod Editing
+pub mod Numbers
+pub mod Front
