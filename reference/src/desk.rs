@@ -1,0 +1,28 @@
+//! The exam desk's edit of one job in a lent table.
+
+use crate::jobs::{judge_table_count, judge_times, Job};
+use crate::refusal::Refusal;
+
+/// Entry 9: "C, T and D of that entry change, its id and the other entries stay. This call checks
+/// only refusals 1 (on the table's count), 4 and 5; entries it doesn't edit are not judged."
+pub fn edit(
+    jobs: &mut [Job],
+    place: usize,
+    cost: u16,
+    period: u16,
+    deadline: u16,
+) -> Result<(), Refusal> {
+    judge_table_count(jobs.len())?;
+    if place >= jobs.len() {
+        return Err(Refusal::EditPlace);
+    }
+    let edited = Job {
+        id: jobs[place].id,
+        cost,
+        period,
+        deadline,
+    };
+    judge_times(&[edited])?;
+    jobs[place] = edited;
+    Ok(())
+}

@@ -1,0 +1,113 @@
+//! Calls of the exam desk's edit.
+
+use crate::frames::{Input, EDIT};
+use crate::generation::call::{blank_input, put};
+use crate::generation::job_faults::with_bad_times;
+use crate::generation::lists::job_of_times;
+use crate::generation::random::Random;
+use crate::jobs::{record_of_job, Job, LONGEST_PERIOD, MOST_JOBS};
+
+/// What an edit's call is to show.
+#[derive(Clone, Copy, PartialEq, Eq)]
+enum Kind {
+    Accepted,
+    BadCount,
+    BadPlace,
+    BadTimes,
+}
+
+/// The kinds in turn. Only the edit has refusal 4, so its calls are the most.
+const KINDS: [Kind; 10] = [
+    Kind::Accepted,
+    Kind::BadPlace,
+    Kind::BadCount,
+    Kind::Accepted,
+    Kind::BadPlace,
+    Kind::BadTimes,
+    Kind::BadPlace,
+    Kind::Accepted,
+    Kind::BadCount,
+    Kind::BadPlace,
+];
+
+/// A time up to the most, which is itself the time every other time.
+fn up_to(random: &mut Random, most: u16) -> u16 {
+    if random.once_in(2) {
+        most
+    } else {
+        random.ticks(1, most)
+    }
+}
+
+/// Accepted times, among them the least, the longest and C equal to D.
+fn good_times(random: &mut Random) -> Job {
+    let most = random.choose(&[1, 10, 1_000, LONGEST_PERIOD]);
+    let period = up_to(random, most);
+    let deadline = up_to(random, period);
+    let cost = up_to(random, deadline);
+    job_of_times(cost, period, deadline)
+}
+
+/// A slice of jobs with any numbers at all, as the entries that are not edited are not judged.
+fn any_jobs(random: &mut Random, count: usize) -> Vec<Job> {
+    let mut jobs = Vec::new();
+    for _ in 0..count {
+        let mut job = job_of_times(
+            random.ticks(0, u16::MAX),
+            random.ticks(0, u16::MAX),
+            random.ticks(0, u16::MAX),
+        );
+        job.id = random.byte(0, 255);
+        jobs.push(job);
+    }
+    jobs
+}
+
+/// A number of jobs from 1 to 8 and a place below it, all such pairs in turn.
+fn count_and_place(round: usize) -> (usize, usize) {
+    let pairs = MOST_JOBS * (MOST_JOBS + 1) / 2;
+    let mut place = round % pairs;
+    let mut count = 1;
+    while place >= count {
+        place -= count;
+        count += 1;
+    }
+    (count, place)
+}
+
+/// The number of jobs lent and the place. Bad counts and counts for bad places come in turn.
+fn lent_and_place(random: &mut Random, kind: Kind, round: usize) -> (usize, usize) {
+    match kind {
+        Kind::Accepted | Kind::BadTimes => count_and_place(round),
+        Kind::BadCount => {
+            let count = [0, MOST_JOBS + 1, MOST_JOBS + 2][round % 3];
+            (count, random.choose(&[0, MOST_JOBS - 1, count, 255]))
+        }
+        Kind::BadPlace => {
+            let count = 1 + round % MOST_JOBS;
+            (count, random.choose(&[count, count, count + 1, 255]))
+        }
+    }
+}
+
+/// The edit's call that is the `ordinal`-th, counted from 0.
+pub fn edit_call(random: &mut Random, ordinal: usize) -> Input {
+    let kind = KINDS[ordinal % KINDS.len()];
+    // Calls of one kind see the rounds 0, 1, 2 and so on, so that counts and places come in turn.
+    let before = |end: usize| KINDS[..end].iter().filter(|other| **other == kind).count();
+    let round = ordinal / KINDS.len() * before(KINDS.len()) + before(ordinal % KINDS.len());
+    let (count, place) = lent_and_place(random, kind, round);
+    let jobs = any_jobs(random, count);
+    let mut times = good_times(random);
+    let may_be_bad = matches!(kind, Kind::BadCount | Kind::BadPlace);
+    if kind == Kind::BadTimes || may_be_bad && random.once_in(2) {
+        times = with_bad_times(random, &times);
+    }
+    let mut input = blank_input(EDIT);
+    let records: Vec<u8> = jobs.iter().flat_map(record_of_job).collect();
+    input.length_a = records.len() as u8;
+    put(&mut input.a, &records);
+    input.number = place as u8;
+    (input.cost, input.period, input.deadline) = (times.cost, times.period, times.deadline);
+    input
+}

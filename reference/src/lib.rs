@@ -1,0 +1,23 @@
+//! The entries of the scope document as plain functions, written by direct reading and exhaustive
+//! search, and the generation of cases with their expected answers.
+
+pub mod configuration;
+pub mod desk;
+pub mod frames;
+pub mod generation;
+pub mod jobs;
+pub mod key;
+pub mod marker;
+pub mod planner;
+pub mod quanta;
+pub mod refusal;
+pub mod response_time;
+
+pub use configuration::{read_configuration, same_bytes, write_configuration};
+pub use desk::edit;
+pub use jobs::{read_jobs, write_jobs};
+pub use key::key;
+pub use marker::mark;
+pub use planner::plan;
+pub use refusal::Refusal;
+pub use response_time::bounds;

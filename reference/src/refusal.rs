@@ -1,0 +1,48 @@
+//! The twelve reasons a call is turned down, each with its number, and the test for refusal 12.
+
+/// "Why a call is turned down": one case for each numbered line, whose value is the line's number.
+#[derive(Clone, Copy, Debug, PartialEq, Eq)]
+#[repr(u8)]
+pub enum Refusal {
+    /// "The job block is empty, over 64 bytes or not a multiple of 8, or a table has 0 or more
+    /// than 8 jobs."
+    JobCount = 1,
+    /// "A job's id is 0 or its second byte is not 0."
+    JobIdentity = 2,
+    /// "A job's id is not above the one before."
+    JobOrder = 3,
+    /// "The place to edit is not below the number of jobs (the first place is 0)."
+    EditPlace = 4,
+    /// "A C is 0, a C is above its D, a D is above its T, or a T is above 60,000."
+    JobTimes = 5,
+    /// "The lowest quantum is 0 or above the highest, or the highest is above 64."
+    QuantumRange = 6,
+    /// "The configuration block's length is not 4n, or a table of configuration entries has not n
+    /// of them."
+    ConfigurationCount = 7,
+    /// "Its ids are not the jobs' ids in order."
+    ConfigurationIdentity = 8,
+    /// "A record has none of the three shapes above."
+    RecordShape = 9,
+    /// "A policy 1 job shares its level or a policy 2 job is alone on its level."
+    LevelSharing = 10,
+    /// "The marker finds a job not placed."
+    JobNotPlaced = 11,
+    /// "A lent output is shorter than needed."
+    OutputLength = 12,
+}
+
+impl Refusal {
+    /// "A refusal returns its number alone."
+    pub fn number(self) -> u8 {
+        self as u8
+    }
+}
+
+/// Refusal 12: "A lent output is shorter than needed; bytes past the needed part always stay."
+pub fn judge_output(output: &[u8], need: usize) -> Result<(), Refusal> {
+    if output.len() < need {
+        return Err(Refusal::OutputLength);
+    }
+    Ok(())
+}

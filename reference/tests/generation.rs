@@ -1,0 +1,246 @@
+//! What the stored cases must hold, and what must hold of every case.
+
+use reference::configuration::{Setting, SETTING_BYTES};
+use reference::frames::{answer, Frame, Input, BOUNDS, EDIT, KEY, MARK, PLAN, SAME_BYTES};
+use reference::generation::present::faults_present;
+use reference::generation::summary::Summary;
+use reference::generation::{cases, input_of_case};
+use reference::jobs::Job;
+use reference::response_time::{
+    bound, bounds_of_settings, interference, jobs_above, layer_demand, BOUND_BYTES,
+};
+use std::sync::OnceLock;
+
+/// The stored cases.
+fn stored() -> &'static [(Frame, Frame)] {
+    static CASES: OnceLock<Vec<(Frame, Frame)>> = OnceLock::new();
+    CASES.get_or_init(|| cases(1, 3600))
+}
+
+fn stored_inputs() -> Vec<(Input, &'static Frame)> {
+    stored()
+        .iter()
+        .map(|(input, output)| (Input::from_frame(input), output))
+        .collect()
+}
+
+#[test]
+fn minimums_by_entry_and_refusal() {
+    let summary = Summary::of_cases(stored());
+    for (number, entry) in summary.entries.iter().enumerate().skip(1) {
+        assert!(entry.accepted >= 50, "entry {number}: {entry:?}");
+        let has_refusals = number != usize::from(SAME_BYTES);
+        assert!(
+            !has_refusals || entry.refused >= 50,
+            "entry {number}: {entry:?}"
+        );
+    }
+    let yes_and_no = |entry: u8| {
+        let counts = &summary.entries[usize::from(entry)];
+        counts.answered_yes >= 40 && counts.accepted - counts.answered_yes >= 40
+    };
+    assert!(yes_and_no(MARK) && yes_and_no(SAME_BYTES));
+    for (number, refusal) in summary.refusals.iter().enumerate().skip(1) {
+        assert!(refusal.all >= 60, "refusal {number}: {refusal:?}");
+        assert!(
+            number == 12 || refusal.with_later >= 20,
+            "refusal {number}: {refusal:?}"
+        );
+        let in_records = matches!(number, 2 | 3 | 8 | 9);
+        assert!(
+            !in_records || refusal.with_later_before >= 5,
+            "refusal {number}: {refusal:?}"
+        );
+    }
+}
+
+#[test]
+fn minimums_of_the_planner() {
+    let plans = Summary::of_cases(stored()).plans;
+    assert!(plans.placed_alone >= 60, "{plans:?}");
+    assert!(
+        plans.placed_in_pairs + plans.placed_in_larger_layers >= 100,
+        "{plans:?}"
+    );
+    assert!(plans.placed_in_larger_layers >= 20, "{plans:?}");
+    assert!(
+        plans.stopped_short + plans.stopped_short_sharing >= 100,
+        "{plans:?}"
+    );
+    assert!(plans.stopped_short_sharing >= 20, "{plans:?}");
+    assert!(plans.nothing_placed >= 60, "{plans:?}");
+    assert!(plans.with_longest_period >= 60, "{plans:?}");
+    assert!(plans.by_jobs.iter().all(|count| *count >= 20), "{plans:?}");
+    assert!(plans.by_width.iter().all(|count| *count >= 20), "{plans:?}");
+}
+
+#[test]
+fn a_call_is_refused_with_the_smallest_number_that_applies() {
+    for (case, (input, output)) in stored_inputs().iter().enumerate() {
+        let faults = faults_present(input);
+        let expected = faults.iter().map(|fault| fault.number).min();
+        if input.entry == KEY {
+            let text = expected.map(|number| format!("refused {number}\n"));
+            let length = usize::from(output[1]);
+            let found = output[4..]
+                .starts_with(b"refused")
+                .then(|| &output[4..4 + length]);
+            assert_eq!(
+                found,
+                text.as_ref().map(|text| text.as_bytes()),
+                "case {case}"
+            );
+        } else {
+            assert_eq!(output[0], expected.unwrap_or(0), "case {case}");
+        }
+    }
+}
+
+#[test]
+fn bytes_past_the_need_stay_and_a_refusal_changes_nothing() {
+    for (case, (input, output)) in stored_inputs().iter().enumerate() {
+        if input.entry == KEY {
+            continue;
+        }
+        let jobs = input.job_slice().len();
+        let written = match (output[0], input.entry) {
+            (0, PLAN) => [SETTING_BYTES * jobs, BOUND_BYTES * jobs],
+            (0, BOUNDS | MARK) => [BOUND_BYTES * jobs, 0],
+            (0, _) => [
+                usize::from(output[1]) * usize::from(input.length_output_1 > 0),
+                0,
+            ],
+            _ => [0, 0],
+        };
+        assert_eq!(
+            input.output_1[written[0]..],
+            output[4 + written[0]..84],
+            "case {case}"
+        );
+        assert_eq!(
+            input.output_2[written[1]..],
+            output[84 + written[1]..116],
+            "case {case}"
+        );
+        assert!(output[196..].iter().all(|byte| *byte == 0), "case {case}");
+    }
+}
+
+#[test]
+fn the_planner_and_the_bounds_entry_agree() {
+    let mut compared = 0;
+    for (input, output) in stored_inputs() {
+        if input.entry == PLAN && output[0] == 0 {
+            let mut again = input.clone();
+            again.entry = BOUNDS;
+            let jobs = input.job_slice().len();
+            let need = SETTING_BYTES * jobs;
+            again.length_b = need as u8;
+            again.b[..need].copy_from_slice(&output[4..4 + need]);
+            let bounds = answer(&again.to_frame());
+            assert_eq!(bounds[0], 0);
+            let need = BOUND_BYTES * jobs;
+            assert_eq!(bounds[4..4 + need], output[84..84 + need]);
+            compared += 1;
+        }
+    }
+    assert!(compared >= 500, "{compared} plans compared");
+}
+
+/// The least time to the deadline that equals the demand when sums are kept in two bytes.
+fn bound_in_two_bytes(jobs: &[Job], settings: &[Setting], index: usize) -> u16 {
+    let layer_demand = layer_demand(jobs, settings, index) as u16;
+    let above = jobs_above(jobs, settings, index);
+    let demand = |time: u16| {
+        above.iter().fold(layer_demand, |sum, job| {
+            sum.wrapping_add(interference(job, u32::from(time)) as u16)
+        })
+    };
+    (1..=jobs[index].deadline)
+        .find(|time| demand(*time) == *time)
+        .unwrap_or(0)
+}
+
+#[test]
+fn some_bounds_differ_if_sums_are_kept_in_two_bytes() {
+    let mut differing = 0;
+    for (input, output) in stored_inputs() {
+        if output[0] == 0 && matches!(input.entry, BOUNDS | MARK) {
+            let (jobs, settings) = (input.job_slice(), input.setting_table());
+            let settings = &settings[..jobs.len()];
+            let bounds = bounds_of_settings(&jobs, settings);
+            let differs = |index: usize| {
+                settings[index].level != 0
+                    && bound_in_two_bytes(&jobs, settings, index) != bounds[index]
+            };
+            differing += usize::from((0..jobs.len()).any(differs));
+        }
+    }
+    assert!(differing >= 30, "{differing} cases");
+}
+
+#[test]
+fn deadlines_stand_at_the_bound_and_one_below_it() {
+    let (mut equal, mut missed_by_one) = (0, 0);
+    for (input, output) in stored_inputs() {
+        if output[0] == 0 && matches!(input.entry, BOUNDS | MARK) {
+            let (jobs, settings) = (input.job_slice(), input.setting_table());
+            let settings = &settings[..jobs.len()];
+            for (index, job) in jobs.iter().enumerate() {
+                let mut longer = jobs.clone();
+                longer[index].deadline = job.deadline.saturating_add(1);
+                let bound = bound(&longer, settings, index);
+                equal += usize::from(bound == job.deadline);
+                missed_by_one += usize::from(bound == longer[index].deadline);
+            }
+        }
+    }
+    assert!(equal >= 100, "{equal} bounds");
+    assert!(missed_by_one >= 30, "{missed_by_one} bounds");
+}
+
+#[test]
+fn the_key_program_is_given_blocks_that_are_too_long() {
+    for length in [72, 80] {
+        let is_given =
+            |(input, _): &(Input, &Frame)| input.entry == KEY && input.length_a == length;
+        assert!(stored_inputs().iter().any(is_given), "{length} bytes");
+    }
+}
+
+#[test]
+fn edits_reach_every_place_and_every_length() {
+    let mut places = [0; 8];
+    let mut lengths = [0; 11];
+    for (input, output) in stored_inputs() {
+        if input.entry == EDIT {
+            lengths[input.job_slice().len()] += 1;
+            if output[0] == 0 {
+                places[usize::from(input.number)] += 1;
+            }
+        }
+    }
+    assert!(places.iter().all(|count| *count > 0), "{places:?}");
+    assert!(lengths.iter().all(|count| *count > 0), "{lengths:?}");
+}
+
+#[test]
+fn blocks_of_same_bytes_differ_at_every_position() {
+    let mut positions = [false; 48];
+    for (input, _) in stored_inputs() {
+        if input.entry == SAME_BYTES && input.length_a == input.length_b {
+            let mut pairs = input.block_a().iter().zip(input.block_b());
+            if let Some(position) = pairs.position(|(one, other)| one != other) {
+                positions[position] = true;
+            }
+        }
+    }
+    assert!(positions.iter().all(|differs| *differs));
+}
+
+#[test]
+fn a_case_depends_on_its_seed_and_number_alone() {
+    assert_eq!(input_of_case(1, 77), input_of_case(1, 77));
+    assert_eq!(cases(1, 80)[..40], cases(1, 40)[..]);
+    assert_ne!(cases(1, 40), cases(2, 40));
+}
