@@ -1,0 +1,107 @@
+// The entries for callers in C and Rust: a slice is a pointer and a length, an answer is a word.
+ghost use mathlib.Core.Path.{_≡_};
+ghost use Prim.Native.Nat.{_<_};
+ghost use Rattle.records.specs.Jobs.{readJobs};
+ghost use Rattle.records.specs.Same.{sameBytes};
+ghost use Rattle.marker.specs.Marks.{boundsAnswer, boundsOutcome, markAnswer, markOutcome};
+ghost use Rattle.planner.specs.Plans.{planAnswer, planOutcome};
+ghost use Rattle.capi.specs.Words.{word, inWords, countValue, noValue, truthValue, planValue};
+use marker::BoundsAnswer;
+use marker::MarkAnswer;
+use planner::PlanAnswer;
+use records::block::JobsAnswer;
+
+fn bounds_word(answer: BoundsAnswer) -> u32
+    ensures { λ r. ⌜ r ≡ word noValue (boundsAnswer answer) ⌝ }
+{
+    match answer {
+        BoundsAnswer::Done => 0,
+        BoundsAnswer::Refused(refusal) => refusal.number() as u32,
+    }
+}
+
+fn mark_word(answer: MarkAnswer) -> u32
+    ensures { λ r. ⌜ r ≡ word truthValue (markAnswer answer) ⌝ }
+{
+    match answer {
+        MarkAnswer::Passes => 256,
+        MarkAnswer::Fails => 0,
+        MarkAnswer::Refused(refusal) => refusal.number() as u32,
+    }
+}
+
+fn plan_word(answer: PlanAnswer) -> u32
+    ensures { λ r. ⌜ r ≡ word planValue (planAnswer answer) ⌝ }
+{
+    match answer {
+        PlanAnswer::Planned(placed, considered) => {
+            256 * (placed as u32 + 256 * considered as u32)
+        }
+        PlanAnswer::Refused(refusal) => refusal.number() as u32,
+    }
+}
+
+// Byte 1: the number of jobs.
+#[no_mangle]
+pub extern "C" fn ruzhtylen_read_jobs(jobs: &[u8]) -> u32
+    ensures { λ r. ⌜ r ≡ word countValue (readJobs (now (jobs .entry)) .0) ⌝ }
+{
+    let read = records::block::read_jobs(jobs);
+    let answer = read.answer;
+    match answer {
+        JobsAnswer::Count(n) => 256 * n as u32,
+        JobsAnswer::Refused(refusal) => refusal.number() as u32,
+    }
+}
+
+#[no_mangle]
+pub extern "C" fn ruzhtylen_bounds(
+    jobs: &[u8],
+    low: u8,
+    high: u8,
+    configuration: &[u8],
+    bounds: &mut [u8],
+) -> u32
+    ensures { λ r. ⌜ (r, now (bounds .exit)) ≡ inWords noValue (boundsOutcome (now (jobs .entry)) low high (now (configuration .entry)) (now (bounds .entry))) ⌝ }
+{
+    bounds_word(marker::bounds(jobs, low, high, configuration, &mut *bounds))
+}
+
+// Byte 1: 1 passes, 0 fails.
+#[no_mangle]
+pub extern "C" fn ruzhtylen_mark(
+    jobs: &[u8],
+    low: u8,
+    high: u8,
+    configuration: &[u8],
+    bounds: &mut [u8],
+) -> u32
+    ensures { λ r. ⌜ (r, now (bounds .exit)) ≡ inWords truthValue (markOutcome (now (jobs .entry)) low high (now (configuration .entry)) (now (bounds .entry))) ⌝ }
+{
+    mark_word(marker::mark(jobs, low, high, configuration, &mut *bounds))
+}
+
+// Byte 1: the placed set, bytes 2 and 3: the count of sets considered.
+#[no_mangle]
+pub extern "C" fn ruzhtylen_plan(
+    jobs: &[u8],
+    low: u8,
+    high: u8,
+    configuration: &mut [u8],
+    bounds: &mut [u8],
+) -> u32
+    ensures { λ r. ⌜ (r, (now (configuration .exit), now (bounds .exit))) ≡ inWords planValue (planOutcome (now (jobs .entry)) low high (now (configuration .entry)) (now (bounds .entry))) ⌝ }
+{
+    plan_word(planner::plan(jobs, low, high, &mut *configuration, &mut *bounds))
+}
+
+// 1: the same bytes, 0: not.
+#[no_mangle]
+pub extern "C" fn ruzhtylen_same_bytes(a: &[u8], b: &[u8]) -> u8
+    ensures { λ r. ⌜ r ≡ truthValue (sameBytes (now (a .entry)) (now (b .entry))) ⌝ }
+{
+    if records::same::same_bytes(a, b) {
+        return 1;
+    }
+    0
+}
