@@ -155,6 +155,14 @@ abbrev pub wroteAnswer : Wrote → Answer ℕ
 wroteAnswer (Bytes n) = given n
 wroteAnswer (NotWritten refusal) = refused (number refusal)
 
+-- Refusal 12 of an output of `room` bytes for n jobs.
+abbrev pub roomTests : ℕ → ℕ → Tests
+roomTests n room = (leb (jobSize * n) room, 12) ∷ []
+
+-- The outcome of write_records, which judges the count and the room alone: the number of bytes, and the output at exit.
+unfoldable pub writeRecords : ℕ → List Job → List ℕ → Answer ℕ × List ℕ
+writeRecords n jobs output = outcome (countTests n ++ roomTests n (length output)) (jobSize * n) (bytesOf (take n jobs) ++ drop (jobSize * n) output) output
+
 -- The outcome of write_jobs: the number of bytes, and the output at exit.
 unfoldable pub writeJobs : ℕ → List Job → List ℕ → Answer ℕ × List ℕ
 writeJobs n jobs output =

@@ -2,7 +2,7 @@
 ghost use mathlib.Core.Path.{_≡_};
 ghost use mathlib.Core.List.{[]};
 ghost use Rattle.records.specs.Refusals.{turned};
-ghost use Rattle.records.specs.Jobs.{jobTable, jobsOutcome, readJobs, refusalOf, wroteAnswer, writeJobs};
+ghost use Rattle.records.specs.Jobs.{jobTable, jobsOutcome, readJobs, refusalOf, wroteAnswer, writeRecords, writeJobs};
 use crate::bytes;
 use crate::job::Job;
 use crate::judge;
@@ -68,6 +68,24 @@ pub fn refusal_of(answer: JobsAnswer) -> Refusal
         JobsAnswer::Count(_) => Refusal::JobCount,
         JobsAnswer::Refused(refusal) => refusal,
     }
+}
+
+// Writes the first n jobs of a table, which are not judged: refusals 1 (on n) and 12.
+pub fn write_records(table: [Job; Job::MOST], n: usize, output: &mut [u8]) -> Wrote
+    ensures { λ r. ⌜ (wroteAnswer r, now (output .exit)) ≡ writeRecords n table (now (output .entry)) ⌝ }
+{
+    if n < 1 {
+        return Wrote::NotWritten(Refusal::JobCount);
+    }
+    if Job::MOST < n {
+        return Wrote::NotWritten(Refusal::JobCount);
+    }
+    let size = Job::SIZE * n;
+    if output.len() < size {
+        return Wrote::NotWritten(Refusal::OutputLength);
+    }
+    bytes::encode(table, n, &mut *output);
+    Wrote::Bytes(size)
 }
 
 // Writes the first n jobs of a table as a job block.

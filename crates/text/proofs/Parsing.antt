@@ -6,7 +6,7 @@ use mathlib.Core.List.{List, [], _∷_, _++_, append-assoc, append-nil}
 use native.Mathlib.Decide.{decLe}
 use native.Mathlib.Numerals.{add-one}
 use native.Mathlib.Omega.{arith}
-use lib.Dec.{leb}
+use lib.Dec.{ltb, leb}
 use lib.ListN.{length, getD, take, drop, set, length-append, length-drop, drop-of-length-le}
 use lib.Seq.{drop-cons, drop-drop, getD-drop}
 use borrow.Author.Tests.{not-true, leb-true, lt-ltb, le-ltb, lt-leb}
@@ -27,7 +27,7 @@ use Rattle.text.specs.declared.list.LineAnswer.the-variants.{Skipped, Fo
 use Rattle.text.specs.declared.list.ListAnswer.{ListAnswer}
 use Rattle.text.specs.declared.list.ListAnswer.the-variants.{Jobs, Faulty}
 use Rattle.text.specs.declared.list.ListRead.{ListRead}
-use Rattle.text.specs.Lists.{isBlank, isMark, isDigit, partsFrom, parts, before, nonEmpty, lines, words, allDigits, valueFrom, numberOf, numbers, wrong, wordThen, readNumbers, fieldLimits, numbersLine, contentLine, fieldThen, FieldWithin, FieldRead, readLine, Reading, given, faulty, withLine, readLines, tabled, listAnswer, listOutcome, ListsOn}
+use Rattle.text.specs.Lists.{isBlank, isMark, isDigit, partsFrom, parts, before, nonEmpty, lines, words, allDigits, valueFrom, numberOf, numbers, wrong, wordThen, readNumbers, fieldLimits, numbersLine, contentLine, fieldThen, FieldWithin, FieldRead, readLine, Reading, given, faulty, withLine, readLines, tabled, readList, listAnswer, listOutcome, ListsOn}
 
 -- ---- up to a byte
 
@@ -323,3 +323,44 @@ module _ (old : ListRead) (number : ℕ) where
         ∙ ap (λ (k : ℕ). (given k, jobTable (jobs ++ (job ∷ [])))) (sym more)
         ∙ ap tabled (sym hit)
     on-found h job new a t (faulty other flaw) f = not-faulty other flaw f
+
+-- ---- the number of a faulty line
+
+-- The faulty line, if there is one, is none after line m.
+abbrev LineWithin : ℕ → Reading (List Job) → Type 0
+LineWithin m (given jobs) = Unit {0}
+LineWithin m (faulty number fault) = number ≤ m
+
+with-within : (m number : ℕ) → number ≤ m → (line : LineAnswer) (reading : Reading (List Job)) → LineWithin m reading → LineWithin m (withLine number line reading)
+with-within m number h line (faulty earlier fault) w = w
+with-within m number h Skipped (given jobs) w = tt
+with-within m number h (LineWrong fault) (given jobs) w = h
+with-within m number h (Found job) (given jobs) w = by (ltb (length jobs) mostJobs)
+  where
+    by : (b : Bool) → LineWithin m (cond b (given (jobs ++ (job ∷ []))) (faulty number TooMany))
+    by true = tt
+    by false = h
+
+lines-within : (m number : ℕ) (reading : Reading (List Job)) (rest : List (List ℕ)) → number + length rest ≤ m + 1 → LineWithin m reading → LineWithin m (readLines number reading rest)
+lines-within m number reading [] h w = w
+lines-within m number reading (line ∷ rest) h w = lines-within m (number + 1) (withLine number (readLine line) reading) rest (omega arith) (with-within m number (omega arith) (readLine line) reading w)
+
+parts-few : (between : ℕ → Bool) (part text : List ℕ) → length (partsFrom between part text) ≤ length text + 1
+parts-few between part [] = omega arith
+parts-few between part (byte ∷ text) = by (parts-few between [] text) (parts-few between (part ++ (byte ∷ [])) text) (between byte)
+  where
+    by : length (parts between text) ≤ length text + 1 → length (partsFrom between (part ++ (byte ∷ [])) text) ≤ length text + 1
+        → (b : Bool) → length (cond b (part ∷ parts between text) (partsFrom between (part ++ (byte ∷ [])) text)) ≤ suc (length text) + 1
+    by g h true = omega arith
+    by g h false = omega arith
+
+-- A faulty line is one of the text's, of which there is at most one more than bytes.
+pub fault-line : (text : List ℕ) (number : ℕ) (fault : Fault) → readList text .0 ≡ faulty number fault → number ≤ length text + 1
+unfolding readList
+fault-line text number fault e =
+    let w = lines-within (length text + 1) 1 (given []) (lines text) (omega (arith, parts-few (isMark LineEnd) [] text)) tt in
+    by (readLines 1 (given []) (lines text)) w e
+  where
+    by : (reading : Reading (List Job)) → LineWithin (length text + 1) reading → tabled reading .0 ≡ faulty number fault → number ≤ length text + 1
+    by (given jobs) w f = absurd (let z : _≡_ {A = ℕ} 0 1 = cc in omega arith)
+    by (faulty other flaw) w f = let same : other ≡ number = cc in omega arith

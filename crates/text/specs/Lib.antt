@@ -1,3 +1,4 @@
 pub mod Lines
 pub mod Keys
 pub mod Lists
+pub mod Faults

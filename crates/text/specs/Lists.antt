@@ -179,6 +179,11 @@ jobText job =
 unfoldable pub listText : List Job → List ℕ
 listText jobs = flat jobText jobs
 
+-- The numbers of each job fit its record.
+abbrev pub FieldsFit : List Job → Type 0
+FieldsFit [] = Unit {0}
+FieldsFit (job ∷ jobs) = (job .id ≤ 255) × (job .cost ≤ 65535) × (job .period ≤ 65535) × (job .deadline ≤ 65535) × FieldsFit jobs
+
 -- ---- what the parts of the reader promise
 
 -- The numbers of the words from a field on.

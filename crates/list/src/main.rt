@@ -1,0 +1,44 @@
+// The list program: a job list as text from standard input, and its job block on standard output. The jobs are not judged, so that a
+// list that is to be refused can be written too. A list with a faulty line writes no block: standard error has the line's number and
+// what is wrong. A text of 4,096 bytes or more is not read.
+use libc::STDERR_FILENO;
+use libc::STDIN_FILENO;
+use libc::STDOUT_FILENO;
+use records::block::Wrote;
+use records::job::Job;
+use text::fault::Fault;
+use text::list::ListAnswer;
+
+fn print_fault(line: u32, fault: Fault) {
+    let mut output = [0u8; text::fault::SIZE];
+    let length = text::fault::put_fault(line, fault, &mut output);
+    io::write_all(STDERR_FILENO, &output[..length]);
+}
+
+// Prints the block of the first n jobs of a table; without jobs it is empty.
+fn print_block(table: [Job; Job::MOST], n: usize) {
+    let mut block = [0u8; Job::SIZE * Job::MOST];
+    let wrote = records::block::write_records(table, n, &mut block);
+    let Wrote::Bytes(size) = wrote else {
+        return;
+    };
+    io::write_all(STDOUT_FILENO, &block[..size]);
+}
+
+fn main() {
+    let mut buffer = io::buffer();
+    let got = io::read_full(STDIN_FILENO, &mut buffer);
+    if got == buffer.len() {
+        io::write_all(STDERR_FILENO, b"the text has 4096 bytes or more\n");
+        return;
+    }
+    let read = text::list::read_list(&buffer[..got]);
+    let answer = read.answer;
+    match answer {
+        ListAnswer::Jobs(count) => {
+            let table = read.table;
+            print_block(table, count);
+        }
+        ListAnswer::Faulty(line, fault) => print_fault(line as u32, fault),
+    }
+}

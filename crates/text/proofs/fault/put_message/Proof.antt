@@ -1,0 +1,100 @@
+use mathlib.Core.Path.{sym, ap}
+use native.Mathlib.Omega.{arith}
+use Rattle.text.specs.Faults.{message}
+use Rattle.text.proofs.Writing.{retold, widened}
+use borrow.Author.Needs.{needs}
+use Rattle.text.proofs.fault.put_message.Statement.{statement}
+use Rattle.text.proofs.fault.put_message.Tie as tie
+
+enum-told : tie.Need-enum-told
+enum-told c = search needs
+
+slice-aggregate-put-text : tie.Need-slice-aggregate-put-text
+slice-aggregate-put-text c = search needs
+
+put-text-requires : tie.Need-put-text-requires
+put-text-requires c κs = search needs
+
+enum-told-2 : tie.Need-enum-told-2
+enum-told-2 c = search needs
+
+slice-aggregate-put-text-2 : tie.Need-slice-aggregate-put-text-2
+slice-aggregate-put-text-2 c = search needs
+
+put-text-requires-2 : tie.Need-put-text-requires-2
+put-text-requires-2 c κs = search needs
+
+enum-told-3 : tie.Need-enum-told-3
+enum-told-3 c = search needs
+
+slice-aggregate-put-text-3 : tie.Need-slice-aggregate-put-text-3
+slice-aggregate-put-text-3 c = search needs
+
+put-text-requires-3 : tie.Need-put-text-requires-3
+put-text-requires-3 c κs = search needs
+
+enum-told-4 : tie.Need-enum-told-4
+enum-told-4 c = search needs
+
+slice-aggregate-put-text-4 : tie.Need-slice-aggregate-put-text-4
+slice-aggregate-put-text-4 c = search needs
+
+put-text-requires-4 : tie.Need-put-text-requires-4
+put-text-requires-4 c κs = search needs
+
+same-length : tie.Need-same-length
+same-length c = search needs
+
+returns : tie.Need-returns
+returns c =
+    let put = c .before .before in
+    retold (widened 48 (put .put-text .ensures) (omega arith)) (sym (ap message (put .before .before .before .enum-told .given .1)))
+
+same-length-2 : tie.Need-same-length-2
+same-length-2 c = search needs
+
+returns-2 : tie.Need-returns-2
+returns-2 c =
+    let put = c .before .before in
+    retold (widened 48 (put .put-text2 .ensures) (omega arith)) (sym (ap message (put .before .before .before .enum-told2 .given .1)))
+
+same-length-3 : tie.Need-same-length-3
+same-length-3 c = search needs
+
+returns-3 : tie.Need-returns-3
+returns-3 c =
+    let put = c .before .before in
+    retold (widened 48 (put .put-text3 .ensures) (omega arith)) (sym (ap message (put .before .before .before .enum-told3 .given .1)))
+
+same-length-4 : tie.Need-same-length-4
+same-length-4 c = search needs
+
+returns-4 : tie.Need-returns-4
+returns-4 c =
+    let put = c .before .before in
+    retold (widened 48 (put .put-text4 .ensures) (omega arith)) (sym (ap message (put .before .before .before .enum-told4 .given .1)))
+
+pub put-message-spec : {M : Type 1} → statement M
+put-message-spec =
+    tie.close
+    (tie.spec
+    enum-told
+    slice-aggregate-put-text
+    put-text-requires
+    enum-told-2
+    slice-aggregate-put-text-2
+    put-text-requires-2
+    enum-told-3
+    slice-aggregate-put-text-3
+    put-text-requires-3
+    enum-told-4
+    slice-aggregate-put-text-4
+    put-text-requires-4
+    same-length
+    returns
+    same-length-2
+    returns-2
+    same-length-3
+    returns-3
+    same-length-4
+    returns-4)
