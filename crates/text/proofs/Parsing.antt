@@ -1,4 +1,4 @@
--- Laws of lines, words and numbers of a text, as a reader takes them one after the other. Assumes nothing.
+-- Laws of numbers, words and fields of a line, as a reader takes them one after the other. Assumes nothing.
 use Prim.Native.Nat.{ℕ, suc, _+_, _-_, _*_, _≤_, _<_, min}
 use mathlib.Core.Path.{_≡_, refl, sym, ap, ap₂, subst, _∙_}
 use mathlib.Core.Bool.{Bool, true, false, cond, not, _&&_, false≢true}
@@ -6,28 +6,19 @@ use mathlib.Core.List.{List, [], _∷_, _++_, append-assoc, append-nil}
 use native.Mathlib.Decide.{decLe}
 use native.Mathlib.Numerals.{add-one}
 use native.Mathlib.Omega.{arith}
-use lib.Dec.{ltb, leb}
-use lib.ListN.{length, getD, take, drop, set, length-append, length-drop, drop-of-length-le}
+use lib.Dec.{leb}
+use lib.ListN.{length, getD, take, drop, length-drop, drop-of-length-le}
 use lib.Seq.{drop-cons, drop-drop, getD-drop}
-use borrow.Author.Tests.{not-true, leb-true, lt-ltb, le-ltb, lt-leb}
-use Rattle.records.specs.Limits.{mostJobs}
-use Rattle.records.specs.Jobs.{jobTable, blankJob}
-use Rattle.records.specs.declared.job.Job.{Job}
-use Rattle.records.proofs.FixedWidth.{fill-next}
+use borrow.Author.Tests.{not-true, leb-true, lt-leb}
 use Rattle.text.specs.Lines.{digit}
 use Rattle.text.specs.declared.fault.Fault.{Fault}
-use Rattle.text.specs.declared.fault.Fault.the-variants.{NotANumber, TooLarge, NotFour, TooMany}
-use Rattle.text.specs.declared.words.Mark.the-variants.{LineEnd, Blank, Word}
+use Rattle.text.specs.declared.fault.Fault.the-variants.{NotANumber, TooLarge, NotFour}
+use Rattle.text.specs.declared.words.Mark.the-variants.{Blank, Word}
 use Rattle.text.specs.declared.words.WordAnswer.{WordAnswer}
 use Rattle.text.specs.declared.words.WordAnswer.the-variants.{Number, Wrong}
 use Rattle.text.specs.declared.list.FieldAnswer.{FieldAnswer}
 use Rattle.text.specs.declared.list.FieldAnswer.the-variants.{Number as FieldNumber, Wrong as FieldWrong}
-use Rattle.text.specs.declared.list.LineAnswer.{LineAnswer}
-use Rattle.text.specs.declared.list.LineAnswer.the-variants.{Skipped, Found, Wrong as LineWrong}
-use Rattle.text.specs.declared.list.ListAnswer.{ListAnswer}
-use Rattle.text.specs.declared.list.ListAnswer.the-variants.{Jobs, Faulty}
-use Rattle.text.specs.declared.list.ListRead.{ListRead}
-use Rattle.text.specs.Lists.{isBlank, isMark, isDigit, partsFrom, parts, before, nonEmpty, lines, words, allDigits, valueFrom, numberOf, numbers, wrong, wordThen, readNumbers, fieldLimits, numbersLine, contentLine, fieldThen, FieldWithin, FieldRead, readLine, Reading, given, faulty, withLine, readLines, tabled, readList, listAnswer, listOutcome, ListsOn}
+use Rattle.text.specs.Lists.{isBlank, isMark, isDigit, partsFrom, parts, before, nonEmpty, words, allDigits, valueFrom, numberOf, numbers, wrong, wordThen, readNumbers, fieldLimits, numbersLine, contentLine, fieldThen, FieldWithin, FieldRead}
 
 -- ---- up to a byte
 
@@ -48,7 +39,7 @@ module _ (stop : ℕ → Bool) where
       by h true = refl
       by h false = ap (λ (l : List ℕ). byte ∷ l) h
 
-  pub before-short : (text : List ℕ) → length (before stop text) ≤ length text
+  before-short : (text : List ℕ) → length (before stop text) ≤ length text
   before-short [] = omega arith
   before-short (byte ∷ text) = by (before-short text) (stop byte)
     where
@@ -60,7 +51,7 @@ module _ (stop : ℕ → Bool) where
   before-within text from h = omega (arith, before-short (drop from text), length-drop from text)
 
   -- The byte after it is one at which the test holds.
-  pub before-stop : (text : List ℕ) → length (before stop text) < length text → stop (getD text (length (before stop text)) 0) ≡ true
+  before-stop : (text : List ℕ) → length (before stop text) < length text → stop (getD text (length (before stop text)) 0) ≡ true
   before-stop [] h = absurd (omega arith)
   before-stop (byte ∷ text) h = by (before-stop text) (stop byte) refl h
     where
@@ -69,9 +60,48 @@ module _ (stop : ℕ → Bool) where
       by inner true e h = e
       by inner false e h = inner (omega arith)
 
--- ---- words
+-- ---- numbers
 
-pub number-small : (limit : ℕ) (word : List ℕ) (n : ℕ) → numberOf limit word ≡ Number n → n ≤ limit
+pub digit-range : (byte : ℕ) → isDigit byte ≡ true → (digit 0 ≤ byte) × (byte ≤ digit 9)
+digit-range byte = by (leb (digit 0) byte) refl
+  where
+    by : (b : Bool) → leb (digit 0) byte ≡ b → b && leb byte (digit 9) ≡ true → (digit 0 ≤ byte) × (byte ≤ digit 9)
+    by true e f = (leb-true (digit 0) byte e, leb-true byte (digit 9) f)
+    by false e f = absurd (false≢true f)
+
+-- A word after digits that stand for n, as a number of at most `limit`.
+abbrev pub numberFrom : ℕ → ℕ → List ℕ → WordAnswer
+numberFrom limit n word = cond (allDigits word) (cond (leb (valueFrom n word) limit) (Number (valueFrom n word)) (Wrong TooLarge)) (Wrong NotANumber)
+
+-- Past the limit it does not matter by how much.
+value-capped : (limit a b : ℕ) → min a (limit + 1) ≡ min b (limit + 1) → (word : List ℕ) → min (valueFrom a word) (limit + 1) ≡ min (valueFrom b word) (limit + 1)
+value-capped limit a b e [] = e
+value-capped limit a b e (byte ∷ word) = value-capped limit (a * 10 + (byte - digit 0)) (b * 10 + (byte - digit 0)) (step (byte - digit 0)) word
+  where
+    step : (d : ℕ) → min (a * 10 + d) (limit + 1) ≡ min (b * 10 + d) (limit + 1)
+    step d = omega arith
+
+pub number-capped : (limit a b : ℕ) → min a (limit + 1) ≡ min b (limit + 1) → (word : List ℕ) → numberFrom limit a word ≡ numberFrom limit b word
+number-capped limit a b e word = ap (λ (w : WordAnswer). cond (allDigits word) w (Wrong NotANumber)) (by (valueFrom a word) (valueFrom b word) (value-capped limit a b e word))
+  where
+    by : (x y : ℕ) → min x (limit + 1) ≡ min y (limit + 1) → cond (leb x limit) (Number x) (Wrong TooLarge) ≡ cond (leb y limit) (Number y) (Wrong TooLarge)
+    by x y same = elim (decLe x limit) [
+      | yes l ↦ let f : x ≡ y = omega arith in ap (λ (z : ℕ). cond (leb z limit) (Number z) (Wrong TooLarge)) f
+      | no l ↦ let m : limit < x = omega arith in let n : limit < y = omega arith in rw (lt-leb x limit m, lt-leb y limit n)
+    ]
+
+-- One byte on.
+pub number-next : (limit n : ℕ) (word : List ℕ) (i : ℕ) → i < length word → isDigit (getD word i 0) ≡ true
+    → numberFrom limit n (drop i word) ≡ numberFrom limit (n * 10 + (getD word i 0 - digit 0)) (drop (i + 1) word)
+number-next limit n word i h e = rw (add-one i, drop-cons word i 0 h, e)
+
+pub number-stop : (limit n : ℕ) (word : List ℕ) (i : ℕ) → i < length word → isDigit (getD word i 0) ≡ false → numberFrom limit n (drop i word) ≡ Wrong NotANumber
+number-stop limit n word i h e = rw (drop-cons word i 0 h, e)
+
+pub number-end : (limit n : ℕ) (word : List ℕ) (i : ℕ) → length word ≤ i → numberFrom limit n (drop i word) ≡ cond (leb n limit) (Number n) (Wrong TooLarge)
+number-end limit n word i h = rw (drop-of-length-le word h)
+
+number-small : (limit : ℕ) (word : List ℕ) (n : ℕ) → numberOf limit word ≡ Number n → n ≤ limit
 unfolding numberOf
 number-small limit word n = by (allDigits word) (leb (valueFrom 0 word) limit) refl
   where
@@ -80,12 +110,14 @@ number-small limit word n = by (allDigits word) (leb (valueFrom 0 word) limit) r
     by true false e f = absurd (let z : _≡_ {A = ℕ} 0 1 = cc in omega arith)
     by false b e f = absurd (let z : _≡_ {A = ℕ} 0 1 = cc in omega arith)
 
+-- ---- words
+
 module _ (blank : ℕ → Bool) where
   abbrev wordsBy : List ℕ → List (List ℕ)
   wordsBy text = nonEmpty (parts blank text)
 
   -- Blanks before the first word.
-  pub words-from : (text : List ℕ) → wordsBy text ≡ wordsBy (drop (length (before (λ byte. not (blank byte)) text)) text)
+  words-from : (text : List ℕ) → wordsBy text ≡ wordsBy (drop (length (before (λ byte. not (blank byte)) text)) text)
   words-from [] = refl
   words-from (byte ∷ text) = by (words-from text) (blank byte) refl
     where
@@ -107,11 +139,13 @@ module _ (blank : ℕ → Bool) where
       by h true e = rw (e, append-nil)
       by h false e = h ∙ rw append-assoc
 
-  pub words-one : (byte : ℕ) (text : List ℕ) → blank byte ≡ false
+  words-one : (byte : ℕ) (text : List ℕ) → blank byte ≡ false
       → wordsBy (byte ∷ text) ≡ before blank (byte ∷ text) ∷ wordsBy (drop (length (before blank (byte ∷ text))) (byte ∷ text))
   words-one byte text e = rw e (words-next byte [] text)
 
--- The first word from a place on; a word starts at `start`.
+-- ---- fields
+
+-- The first word from place `at` on starts at `start`, or there is none.
 module _ (content : List ℕ) (at start : ℕ) (found : start ≡ at + length (before (isMark Word) (drop at content))) where
   skipped : words (drop at content) ≡ words (drop start content)
   skipped =
@@ -121,7 +155,7 @@ module _ (content : List ℕ) (at start : ℕ) (found : start ≡ at + length (b
   pub no-word : length content ≤ start → words (drop at content) ≡ []
   no-word h = skipped ∙ ap words (drop-of-length-le content h)
 
-  pub next-word : at ≤ length content → start < length content → (end : ℕ) → end ≡ start + length (before (isMark Blank) (drop start content))
+  next-word : at ≤ length content → start < length content → (end : ℕ) → end ≡ start + length (before (isMark Blank) (drop start content))
       → words (drop at content) ≡ take (end - start) (drop start content) ∷ words (drop end content)
   next-word room h end e =
       let long = length (before (isMark Blank) (drop start content)) in
@@ -187,180 +221,3 @@ field-fault {content} read e limits = read .reads limits ∙ ap (fieldThen conte
 
 pub field-within : {content : List ℕ} {at limit : ℕ} {r : FieldAnswer} {n next : ℕ} → FieldRead content at limit r → r ≡ FieldNumber n next → (n ≤ limit) × (next ≤ length content)
 field-within {content} {at} {limit} read e = subst (FieldWithin content limit) e (read .within)
-
--- ---- numbers
-
-pub digit-range : (byte : ℕ) → isDigit byte ≡ true → (digit 0 ≤ byte) × (byte ≤ digit 9)
-digit-range byte = by (leb (digit 0) byte) refl
-  where
-    by : (b : Bool) → leb (digit 0) byte ≡ b → b && leb byte (digit 9) ≡ true → (digit 0 ≤ byte) × (byte ≤ digit 9)
-    by true e f = (leb-true (digit 0) byte e, leb-true byte (digit 9) f)
-    by false e f = absurd (false≢true f)
-
--- A word after digits that stand for n, as a number of at most `limit`.
-abbrev pub numberFrom : ℕ → ℕ → List ℕ → WordAnswer
-numberFrom limit n word = cond (allDigits word) (cond (leb (valueFrom n word) limit) (Number (valueFrom n word)) (Wrong TooLarge)) (Wrong NotANumber)
-
--- Past the limit it does not matter by how much.
-value-capped : (limit a b : ℕ) → min a (limit + 1) ≡ min b (limit + 1) → (word : List ℕ) → min (valueFrom a word) (limit + 1) ≡ min (valueFrom b word) (limit + 1)
-value-capped limit a b e [] = e
-value-capped limit a b e (byte ∷ word) = value-capped limit (a * 10 + (byte - digit 0)) (b * 10 + (byte - digit 0)) (step (byte - digit 0)) word
-  where
-    step : (d : ℕ) → min (a * 10 + d) (limit + 1) ≡ min (b * 10 + d) (limit + 1)
-    step d = omega arith
-
-pub number-capped : (limit a b : ℕ) → min a (limit + 1) ≡ min b (limit + 1) → (word : List ℕ) → numberFrom limit a word ≡ numberFrom limit b word
-number-capped limit a b e word = ap (λ (w : WordAnswer). cond (allDigits word) w (Wrong NotANumber)) (by (valueFrom a word) (valueFrom b word) (value-capped limit a b e word))
-  where
-    by : (x y : ℕ) → min x (limit + 1) ≡ min y (limit + 1) → cond (leb x limit) (Number x) (Wrong TooLarge) ≡ cond (leb y limit) (Number y) (Wrong TooLarge)
-    by x y same = elim (decLe x limit) [
-      | yes l ↦ let f : x ≡ y = omega arith in ap (λ (z : ℕ). cond (leb z limit) (Number z) (Wrong TooLarge)) f
-      | no l ↦ let m : limit < x = omega arith in let n : limit < y = omega arith in rw (lt-leb x limit m, lt-leb y limit n)
-    ]
-
--- One byte on.
-pub number-next : (limit n : ℕ) (word : List ℕ) (i : ℕ) → i < length word → isDigit (getD word i 0) ≡ true
-    → numberFrom limit n (drop i word) ≡ numberFrom limit (n * 10 + (getD word i 0 - digit 0)) (drop (i + 1) word)
-number-next limit n word i h e = rw (add-one i, drop-cons word i 0 h, e)
-
-pub number-stop : (limit n : ℕ) (word : List ℕ) (i : ℕ) → i < length word → isDigit (getD word i 0) ≡ false → numberFrom limit n (drop i word) ≡ Wrong NotANumber
-number-stop limit n word i h e = rw (drop-cons word i 0 h, e)
-
-pub number-end : (limit n : ℕ) (word : List ℕ) (i : ℕ) → length word ≤ i → numberFrom limit n (drop i word) ≡ cond (leb n limit) (Number n) (Wrong TooLarge)
-number-end limit n word i h = rw (drop-of-length-le word h)
-
--- ---- lines
-
-pub line-skipped : (number : ℕ) (reading : Reading (List Job)) → withLine number Skipped reading ≡ reading
-line-skipped number (given jobs) = refl
-line-skipped number (faulty earlier fault) = refl
-
-module _ (feed : ℕ → Bool) where
-  lines-from : (number : ℕ) (reading : Reading (List Job)) (part text : List ℕ)
-      → readLines number reading (partsFrom feed part text)
-      ≡ readLines (number + 1) (withLine number (readLine (part ++ before feed text)) reading) (parts feed (drop (suc (length (before feed text))) text))
-  unfolding readLine
-  lines-from number reading part [] = rw append-nil (sym (line-skipped (number + 1) (withLine number (readLine part) reading)))
-  lines-from number reading part (byte ∷ text) = by (lines-from number reading (part ++ (byte ∷ [])) text) (feed byte)
-    where
-      by : readLines number reading (partsFrom feed (part ++ (byte ∷ [])) text)
-          ≡ readLines (number + 1) (withLine number (readLine ((part ++ (byte ∷ [])) ++ before feed text)) reading) (parts feed (drop (suc (length (before feed text))) text))
-          → (b : Bool) → readLines number reading (cond b (part ∷ parts feed text) (partsFrom feed (part ++ (byte ∷ [])) text))
-          ≡ readLines (number + 1) (withLine number (readLine (part ++ cond b [] (byte ∷ before feed text))) reading)
-          (parts feed (drop (suc (length (cond b [] (byte ∷ before feed text)))) (byte ∷ text)))
-      by h true = rw append-nil
-      by h false = h ∙ rw append-assoc
-
--- The line from `at` to `end`, and those from `next` on.
-pub lines-next : (text : List ℕ) (at end next number : ℕ) (reading : Reading (List Job)) → end ≡ at + length (before (isMark LineEnd) (drop at text))
-    → drop next text ≡ drop (end + 1) text
-    → readLines number reading (lines (drop at text)) ≡ readLines (number + 1) (withLine number (readLine (take (end - at) (drop at text))) reading) (lines (drop next text))
-lines-next text at end next number reading e f =
-    let long = length (before (isMark LineEnd) (drop at text)) in
-    let size : long ≡ end - at = omega arith in
-    let past : at + suc long ≡ end + 1 = omega arith in
-    lines-from (isMark LineEnd) number reading [] (drop at text)
-    ∙ ap₂ (λ (line rest : List ℕ). readLines (number + 1) (withLine number (readLine line) reading) (lines rest))
-    (sym (before-take (isMark LineEnd) (drop at text)) ∙ ap (λ (k : ℕ). take k (drop at text)) size)
-    (drop-drop (suc long) at text ∙ ap (λ (k : ℕ). drop k text) past ∙ sym f)
-
--- Past the last byte there is nothing.
-pub lines-end : (text : List ℕ) (at number : ℕ) (reading : Reading (List Job)) → length text ≤ at → readLines number reading (lines (drop at text)) ≡ reading
-unfolding readLine
-lines-end text at number reading h = rw (drop-of-length-le text h) (line-skipped number reading)
-
--- ---- one line more
-
-module _ (old : ListRead) (number : ℕ) where
-  -- What stands for a reading answers as the reading does.
-  answers : (a : ListAnswer) → old .answer ≡ a → (reading : Reading (List Job)) → listOutcome old ≡ tabled reading → listAnswer a ≡ tabled reading .0
-  answers a e reading f = sym (ap listAnswer e) ∙ ap (λ (o : Reading ℕ × List Job). o .0) f
-
-  pub on-line : (line other : LineAnswer) (new : ListRead) → line ≡ other → ListsOn old number other new → ListsOn old number line new
-  on-line line other new e on = subst (λ (l : LineAnswer). ListsOn old number l new) (sym e) on
-
-  pub on-faulty : (line : LineAnswer) (earlier : ℕ) (fault : Fault) → old .answer ≡ Faulty earlier fault → ListsOn old number line old
-  unfolding ListsOn
-  on-faulty line earlier fault e (given jobs) f =
-      let g : faulty earlier fault ≡ given (length jobs) = answers (Faulty earlier fault) e (given jobs) f in
-      absurd (let z : _≡_ {A = ℕ} 0 1 = cc in omega arith)
-  on-faulty line earlier fault e (faulty other flaw) f = f
-
-  pub on-skipped : ListsOn old number Skipped old
-  unfolding ListsOn
-  on-skipped reading f = f ∙ ap tabled (sym (line-skipped number reading))
-
-  module _ (count : ℕ) (counted : old .answer ≡ Jobs count) where
-    size-of : (jobs : List Job) → listOutcome old ≡ tabled (given jobs) → length jobs ≡ count
-    size-of jobs f = let g : given count ≡ given (length jobs) = answers (Jobs count) counted (given jobs) f in cc
-
-    not-faulty : {A : Type 0} (other : ℕ) (flaw : Fault) → listOutcome old ≡ tabled (faulty other flaw) → A
-    not-faulty other flaw f =
-        let g : given count ≡ faulty other flaw = answers (Jobs count) counted (faulty other flaw) f in
-        absurd (let z : _≡_ {A = ℕ} 0 1 = cc in omega arith)
-
-    pub on-wrong : (fault : Fault) (new : ListRead) → listOutcome new ≡ tabled (faulty number fault) → ListsOn old number (LineWrong fault) new
-    unfolding ListsOn
-    on-wrong fault new g (given jobs) f = g
-    on-wrong fault new g (faulty other flaw) f = not-faulty other flaw f
-
-    pub on-full : mostJobs ≤ count → (job : Job) (new : ListRead) → listOutcome new ≡ tabled (faulty number TooMany) → ListsOn old number (Found job) new
-    unfolding ListsOn
-    on-full h job new g (given jobs) f = rw (le-ltb (length jobs) mostJobs (omega (arith, size-of jobs f))) g
-    on-full h job new g (faulty other flaw) f = not-faulty other flaw f
-
-    pub on-found : count < mostJobs → (job : Job) (new : ListRead) → new .answer ≡ Jobs (count + 1) → new .table ≡ set (old .table) count job → ListsOn old number (Found job) new
-    unfolding ListsOn
-    on-found h job new a t (given jobs) f =
-        let size = size-of jobs f in
-        let table : old .table ≡ jobTable jobs = ap (λ (o : Reading ℕ × List Job). o .1) f in
-        let more : length (jobs ++ (job ∷ [])) ≡ count + 1 = length-append jobs (job ∷ []) ∙ ap (λ (k : ℕ). k + 1) size in
-        let full : set (old .table) count job ≡ jobTable (jobs ++ (job ∷ [])) =
-        ap (λ (l : List Job). set l count job) table ∙ fill-next mostJobs count jobs blankJob job size h
-        in
-        let hit : withLine number (Found job) (given jobs) ≡ given (jobs ++ (job ∷ [])) = rw (lt-ltb (length jobs) mostJobs (omega (arith, size))) in
-        ap₂ (λ (x : ListAnswer) (y : List Job). (listAnswer x, y)) a (t ∙ full)
-        ∙ ap (λ (k : ℕ). (given k, jobTable (jobs ++ (job ∷ [])))) (sym more)
-        ∙ ap tabled (sym hit)
-    on-found h job new a t (faulty other flaw) f = not-faulty other flaw f
-
--- ---- the number of a faulty line
-
--- The faulty line, if there is one, is none after line m.
-abbrev LineWithin : ℕ → Reading (List Job) → Type 0
-LineWithin m (given jobs) = Unit {0}
-LineWithin m (faulty number fault) = number ≤ m
-
-with-within : (m number : ℕ) → number ≤ m → (line : LineAnswer) (reading : Reading (List Job)) → LineWithin m reading → LineWithin m (withLine number line reading)
-with-within m number h line (faulty earlier fault) w = w
-with-within m number h Skipped (given jobs) w = tt
-with-within m number h (LineWrong fault) (given jobs) w = h
-with-within m number h (Found job) (given jobs) w = by (ltb (length jobs) mostJobs)
-  where
-    by : (b : Bool) → LineWithin m (cond b (given (jobs ++ (job ∷ []))) (faulty number TooMany))
-    by true = tt
-    by false = h
-
-lines-within : (m number : ℕ) (reading : Reading (List Job)) (rest : List (List ℕ)) → number + length rest ≤ m + 1 → LineWithin m reading → LineWithin m (readLines number reading rest)
-lines-within m number reading [] h w = w
-lines-within m number reading (line ∷ rest) h w = lines-within m (number + 1) (withLine number (readLine line) reading) rest (omega arith) (with-within m number (omega arith) (readLine line) reading w)
-
-parts-few : (between : ℕ → Bool) (part text : List ℕ) → length (partsFrom between part text) ≤ length text + 1
-parts-few between part [] = omega arith
-parts-few between part (byte ∷ text) = by (parts-few between [] text) (parts-few between (part ++ (byte ∷ [])) text) (between byte)
-  where
-    by : length (parts between text) ≤ length text + 1 → length (partsFrom between (part ++ (byte ∷ [])) text) ≤ length text + 1
-        → (b : Bool) → length (cond b (part ∷ parts between text) (partsFrom between (part ++ (byte ∷ [])) text)) ≤ suc (length text) + 1
-    by g h true = omega arith
-    by g h false = omega arith
-
--- A faulty line is one of the text's, of which there is at most one more than bytes.
-pub fault-line : (text : List ℕ) (number : ℕ) (fault : Fault) → readList text .0 ≡ faulty number fault → number ≤ length text + 1
-unfolding readList
-fault-line text number fault e =
-    let w = lines-within (length text + 1) 1 (given []) (lines text) (omega (arith, parts-few (isMark LineEnd) [] text)) tt in
-    by (readLines 1 (given []) (lines text)) w e
-  where
-    by : (reading : Reading (List Job)) → LineWithin (length text + 1) reading → tabled reading .0 ≡ faulty number fault → number ≤ length text + 1
-    by (given jobs) w f = absurd (let z : _≡_ {A = ℕ} 0 1 = cc in omega arith)
-    by (faulty other flaw) w f = let same : other ≡ number = cc in omega arith

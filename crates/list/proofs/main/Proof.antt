@@ -4,7 +4,7 @@ use mathlib.Core.List.{List}
 use native.Mathlib.Omega.{arith}
 use Rattle.records.specs.declared.job.Job.{Job}
 use Rattle.text.specs.Lists.{Reading, listAnswer}
-use Rattle.text.proofs.Parsing.{fault-line}
+use Rattle.text.proofs.Listing.{fault-line}
 use borrow.Author.Needs.{needs}
 use Rattle.list.proofs.main.Statement.{statement}
 use Rattle.list.proofs.main.Tie as tie

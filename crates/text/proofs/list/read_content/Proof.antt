@@ -1,6 +1,6 @@
 use Prim.Native.Nat.{ℕ, _≤_}
 use mathlib.Core.Path.{_≡_, sym, ap, _∙_}
-use mathlib.Core.List.{List, [], _∷_}
+use mathlib.Core.List.{List}
 use native.Mathlib.Omega.{arith}
 use lib.ListN.{length, drop}
 use Rattle.text.specs.declared.words.Mark.the-variants.{Word}
@@ -18,21 +18,14 @@ find-requires c κs = search needs
 returns : tie.Need-returns
 returns c = sym (ap wordsLine (no-word (c .before .before .before .args .content .now) 0 _ (c .before .find .ensures) (omega arith)))
 
--- The limits of the fields after the first, the second and the third.
-abbrev three : List ℕ
-three = 65535 ∷ 65535 ∷ 65535 ∷ []
+-- The line without its comment, where there is a word.
+abbrev content : tie.Else1 → List ℕ
+content c = c .before .before .before .args .content .now
 
-abbrev two : List ℕ
-two = 65535 ∷ 65535 ∷ []
-
-abbrev one : List ℕ
-one = 65535 ∷ []
-
--- There is a word.
-on : (c : tie.Else1) → contentLine (c .before .before .before .args .content .now) ≡ numbersLine (readNumbers fieldLimits (words (c .before .before .before .args .content .now)))
+on : (c : tie.Else1) → contentLine (content c) ≡ numbersLine (readNumbers fieldLimits (words (content c)))
 on c =
-    let content = c .before .before .before .args .content .now in
-    some-words content (c .before .find .result) (c .before .find .ensures) (omega (arith, c .before .find .ensures, before-within (isMark Word) content 0 (omega arith)))
+    some-words (content c) (c .before .find .result) (c .before .find .ensures)
+    (omega (arith, c .before .find .ensures, before-within (isMark Word) (content c) 0 (omega arith)))
 
 read-field-requires : tie.Need-read-field-requires
 read-field-requires c κs = search needs
@@ -50,9 +43,12 @@ returns-2 : tie.Need-returns-2
 returns-2 c =
     let wrong = c .before .enum-told .given .1 in
     ap Wrong (c .fault-of .ensures ∙ ap faultOf wrong)
-    ∙ sym (on (c .before .before .before .before) ∙ ap (λ (x : Numbers). numbersLine (x)) (field-fault (c .before .before .before .read-field .ensures) wrong three))
+    ∙ sym (on (c .before .before .before .before) ∙ ap numbersLine (field-fault (c .before .before .before .read-field .ensures) wrong (drop 1 fieldLimits)))
 
 -- Past the first number.
+abbrev before-id : tie.After-known-told → tie.Else1
+before-id c = c .before .before .before .before
+
 module _ (c : tie.After-known-told) where
   abbrev id : ℕ
   id = c .before .first .given .0 .0
@@ -60,10 +56,10 @@ module _ (c : tie.After-known-told) where
   abbrev after-id : ℕ
   after-id = c .before .first .given .0 .1 .0
 
-  on-id : contentLine (c .before .before .before .before .before .before .before .args .content .now) ≡ numbersLine (wordThen (Number id) (readNumbers three (words (drop after-id (c .before .before .before .before .before .before .before .args .content .now)))))
-  on-id = on (c .before .before .before .before) ∙ ap (λ (x : Numbers). numbersLine (x)) (field-then (c .before .before .before .read-field .ensures) (c .before .first .given .1) three)
+  on-id : contentLine (content (before-id c)) ≡ numbersLine (wordThen (Number id) (readNumbers (drop 1 fieldLimits) (words (drop after-id (content (before-id c))))))
+  on-id = on (before-id c) ∙ ap numbersLine (field-then (c .before .before .before .read-field .ensures) (c .before .first .given .1) (drop 1 fieldLimits))
 
-  id-within : (id ≤ 255) × (after-id ≤ length (c .before .before .before .before .before .before .before .args .content .now))
+  id-within : (id ≤ 255) × (after-id ≤ length (content (before-id c)))
   id-within = field-within (c .before .before .before .read-field .ensures) (c .before .first .given .1)
 
 read-field-requires-2 : tie.Need-read-field-requires-2
@@ -80,11 +76,15 @@ fault-of-requires-2 c κs = search needs
 
 returns-3 : tie.Need-returns-3
 returns-3 c =
+    let p = c .before .before .before .before in
     let wrong = c .before .enum-told2 .given .1 in
     ap Wrong (c .fault-of2 .ensures ∙ ap faultOf wrong)
-    ∙ sym (on-id (c .before .before .before .before) ∙ ap (λ (x : Numbers). numbersLine (wordThen (Number (id (c .before .before .before .before))) (x))) (field-fault (c .before .before .before .read-field2 .ensures) wrong two))
+    ∙ sym (on-id p ∙ ap (λ (x : Numbers). numbersLine (wordThen (Number (id p)) x)) (field-fault (c .before .before .before .read-field2 .ensures) wrong (drop 2 fieldLimits)))
 
 -- Past the second number.
+abbrev before-cost : tie.After-known-told2 → tie.After-known-told
+before-cost c = c .before .before .before .before
+
 module _ (c : tie.After-known-told2) where
   abbrev cost : ℕ
   cost = c .before .second .given .0 .0
@@ -92,10 +92,10 @@ module _ (c : tie.After-known-told2) where
   abbrev after-cost : ℕ
   after-cost = c .before .second .given .0 .1 .0
 
-  on-cost : contentLine (c .before .before .before .before .before .before .before .before .before .before .before .args .content .now) ≡ numbersLine (wordThen (Number (id (c .before .before .before .before))) (wordThen (Number cost) (readNumbers two (words (drop after-cost (c .before .before .before .before .before .before .before .before .before .before .before .args .content .now))))))
-  on-cost = on-id (c .before .before .before .before) ∙ ap (λ (x : Numbers). numbersLine (wordThen (Number (id (c .before .before .before .before))) (x))) (field-then (c .before .before .before .read-field2 .ensures) (c .before .second .given .1) two)
+  on-cost : contentLine (content (before-id (before-cost c))) ≡ numbersLine (wordThen (Number (id (before-cost c))) (wordThen (Number cost) (readNumbers (drop 2 fieldLimits) (words (drop after-cost (content (before-id (before-cost c))))))))
+  on-cost = on-id (before-cost c) ∙ ap (λ (x : Numbers). numbersLine (wordThen (Number (id (before-cost c))) x)) (field-then (c .before .before .before .read-field2 .ensures) (c .before .second .given .1) (drop 2 fieldLimits))
 
-  cost-within : (cost ≤ 65535) × (after-cost ≤ length (c .before .before .before .before .before .before .before .before .before .before .before .args .content .now))
+  cost-within : (cost ≤ 65535) × (after-cost ≤ length (content (before-id (before-cost c))))
   cost-within = field-within (c .before .before .before .read-field2 .ensures) (c .before .second .given .1)
 
 read-field-requires-3 : tie.Need-read-field-requires-3
@@ -112,11 +112,15 @@ fault-of-requires-3 c κs = search needs
 
 returns-4 : tie.Need-returns-4
 returns-4 c =
+    let p = c .before .before .before .before in
     let wrong = c .before .enum-told3 .given .1 in
     ap Wrong (c .fault-of3 .ensures ∙ ap faultOf wrong)
-    ∙ sym (on-cost (c .before .before .before .before) ∙ ap (λ (x : Numbers). numbersLine (wordThen (Number (id (c .before .before .before .before .before .before .before .before))) (wordThen (Number (cost (c .before .before .before .before))) (x)))) (field-fault (c .before .before .before .read-field3 .ensures) wrong one))
+    ∙ sym (on-cost p ∙ ap (λ (x : Numbers). numbersLine (wordThen (Number (id (before-cost p))) (wordThen (Number (cost p)) x))) (field-fault (c .before .before .before .read-field3 .ensures) wrong (drop 3 fieldLimits)))
 
 -- Past the third number.
+abbrev before-period : tie.After-known-told3 → tie.After-known-told2
+before-period c = c .before .before .before .before
+
 module _ (c : tie.After-known-told3) where
   abbrev period : ℕ
   period = c .before .third .given .0 .0
@@ -124,10 +128,10 @@ module _ (c : tie.After-known-told3) where
   abbrev after-period : ℕ
   after-period = c .before .third .given .0 .1 .0
 
-  on-period : contentLine (c .before .before .before .before .before .before .before .before .before .before .before .before .before .before .before .args .content .now) ≡ numbersLine (wordThen (Number (id (c .before .before .before .before .before .before .before .before))) (wordThen (Number (cost (c .before .before .before .before))) (wordThen (Number period) (readNumbers one (words (drop after-period (c .before .before .before .before .before .before .before .before .before .before .before .before .before .before .before .args .content .now)))))))
-  on-period = on-cost (c .before .before .before .before) ∙ ap (λ (x : Numbers). numbersLine (wordThen (Number (id (c .before .before .before .before .before .before .before .before))) (wordThen (Number (cost (c .before .before .before .before))) (x)))) (field-then (c .before .before .before .read-field3 .ensures) (c .before .third .given .1) one)
+  on-period : contentLine (content (before-id (before-cost (before-period c)))) ≡ numbersLine (wordThen (Number (id (before-cost (before-period c)))) (wordThen (Number (cost (before-period c))) (wordThen (Number period) (readNumbers (drop 3 fieldLimits) (words (drop after-period (content (before-id (before-cost (before-period c))))))))))
+  on-period = on-cost (before-period c) ∙ ap (λ (x : Numbers). numbersLine (wordThen (Number (id (before-cost (before-period c)))) (wordThen (Number (cost (before-period c))) x))) (field-then (c .before .before .before .read-field3 .ensures) (c .before .third .given .1) (drop 3 fieldLimits))
 
-  period-within : (period ≤ 65535) × (after-period ≤ length (c .before .before .before .before .before .before .before .before .before .before .before .before .before .before .before .args .content .now))
+  period-within : (period ≤ 65535) × (after-period ≤ length (content (before-id (before-cost (before-period c)))))
   period-within = field-within (c .before .before .before .read-field3 .ensures) (c .before .third .given .1)
 
 read-field-requires-4 : tie.Need-read-field-requires-4
@@ -144,11 +148,15 @@ fault-of-requires-4 c κs = search needs
 
 returns-5 : tie.Need-returns-5
 returns-5 c =
+    let p = c .before .before .before .before in
     let wrong = c .before .enum-told4 .given .1 in
     ap Wrong (c .fault-of4 .ensures ∙ ap faultOf wrong)
-    ∙ sym (on-period (c .before .before .before .before) ∙ ap (λ (x : Numbers). numbersLine (wordThen (Number (id (c .before .before .before .before .before .before .before .before .before .before .before .before))) (wordThen (Number (cost (c .before .before .before .before .before .before .before .before))) (wordThen (Number (period (c .before .before .before .before))) (x))))) (field-fault (c .before .before .before .read-field4 .ensures) wrong []))
+    ∙ sym (on-period p ∙ ap (λ (x : Numbers). numbersLine (wordThen (Number (id (before-cost (before-period p)))) (wordThen (Number (cost (before-period p))) (wordThen (Number (period p)) x)))) (field-fault (c .before .before .before .read-field4 .ensures) wrong (drop 4 fieldLimits)))
 
 -- Past the fourth number.
+abbrev before-deadline : tie.After-known-told4 → tie.After-known-told3
+before-deadline c = c .before .before .before .before
+
 module _ (c : tie.After-known-told4) where
   abbrev deadline : ℕ
   deadline = c .before .fourth .given .0 .0
@@ -156,10 +164,10 @@ module _ (c : tie.After-known-told4) where
   abbrev after-deadline : ℕ
   after-deadline = c .before .fourth .given .0 .1 .0
 
-  on-deadline : contentLine (c .before .before .before .before .before .before .before .before .before .before .before .before .before .before .before .before .before .before .before .args .content .now) ≡ numbersLine (wordThen (Number (id (c .before .before .before .before .before .before .before .before .before .before .before .before))) (wordThen (Number (cost (c .before .before .before .before .before .before .before .before))) (wordThen (Number (period (c .before .before .before .before))) (wordThen (Number deadline) (readNumbers [] (words (drop after-deadline (c .before .before .before .before .before .before .before .before .before .before .before .before .before .before .before .before .before .before .before .args .content .now))))))))
-  on-deadline = on-period (c .before .before .before .before) ∙ ap (λ (x : Numbers). numbersLine (wordThen (Number (id (c .before .before .before .before .before .before .before .before .before .before .before .before))) (wordThen (Number (cost (c .before .before .before .before .before .before .before .before))) (wordThen (Number (period (c .before .before .before .before))) (x))))) (field-then (c .before .before .before .read-field4 .ensures) (c .before .fourth .given .1) [])
+  on-deadline : contentLine (content (before-id (before-cost (before-period (before-deadline c))))) ≡ numbersLine (wordThen (Number (id (before-cost (before-period (before-deadline c))))) (wordThen (Number (cost (before-period (before-deadline c)))) (wordThen (Number (period (before-deadline c))) (wordThen (Number deadline) (readNumbers (drop 4 fieldLimits) (words (drop after-deadline (content (before-id (before-cost (before-period (before-deadline c))))))))))))
+  on-deadline = on-period (before-deadline c) ∙ ap (λ (x : Numbers). numbersLine (wordThen (Number (id (before-cost (before-period (before-deadline c))))) (wordThen (Number (cost (before-period (before-deadline c)))) (wordThen (Number (period (before-deadline c))) x)))) (field-then (c .before .before .before .read-field4 .ensures) (c .before .fourth .given .1) (drop 4 fieldLimits))
 
-  deadline-within : (deadline ≤ 65535) × (after-deadline ≤ length (c .before .before .before .before .before .before .before .before .before .before .before .before .before .before .before .before .before .before .before .args .content .now))
+  deadline-within : (deadline ≤ 65535) × (after-deadline ≤ length (content (before-id (before-cost (before-period (before-deadline c))))))
   deadline-within = field-within (c .before .before .before .read-field4 .ensures) (c .before .fourth .given .1)
 
 find-requires-2 : tie.Need-find-requires-2
@@ -168,17 +176,17 @@ find-requires-2 c κs = search needs
 returns-6 : tie.Need-returns-6
 returns-6 c =
     let p = c .before .before in
-    let content = c .before .before .before .before .before .before .before .before .before .before .before .before .before .before .before .before .before .before .before .before .before .args .content .now in
-    sym (on-deadline p ∙ ap (λ (x : Numbers). numbersLine (wordThen (Number (id (c .before .before .before .before .before .before .before .before .before .before .before .before .before .before))) (wordThen (Number (cost (c .before .before .before .before .before .before .before .before .before .before))) (wordThen (Number (period (c .before .before .before .before .before .before))) (wordThen (Number (deadline (c .before .before))) (x)))))) (some-left content (after-deadline p) _ (c .before .find2 .ensures) (deadline-within p .1) (c .if2 .taken)))
+    let left = some-left (content (before-id (before-cost (before-period (before-deadline p))))) (after-deadline p) _ (c .before .find2 .ensures) (deadline-within p .1) (c .if2 .taken) in
+    sym (on-deadline p ∙ ap (λ (x : Numbers). numbersLine (wordThen (Number (id (before-cost (before-period (before-deadline p))))) (wordThen (Number (cost (before-period (before-deadline p)))) (wordThen (Number (period (before-deadline p))) (wordThen (Number (deadline p)) x))))) left)
 
 cast-t23 : tie.Need-cast-t23
-cast-t23 c = omega (arith, id-within (c .before .before .before .before .before .before .before .before .before .before .before .before .before .before) .0)
+cast-t23 c = omega (arith, id-within (before-cost (before-period (before-deadline ((c .before .before))))) .0)
 
 returns-7 : tie.Need-returns-7
 returns-7 c =
     let p = c .before .before in
-    let content = c .before .before .before .before .before .before .before .before .before .before .before .before .before .before .before .before .before .before .before .before .before .args .content .now in
-    sym (on-deadline p ∙ ap (λ (x : Numbers). numbersLine (wordThen (Number (id (c .before .before .before .before .before .before .before .before .before .before .before .before .before .before))) (wordThen (Number (cost (c .before .before .before .before .before .before .before .before .before .before))) (wordThen (Number (period (c .before .before .before .before .before .before))) (wordThen (Number (deadline (c .before .before))) (x)))))) (none-left content (after-deadline p) _ (c .before .find2 .ensures) (c .if2 .left)))
+    let left = none-left (content (before-id (before-cost (before-period (before-deadline p))))) (after-deadline p) _ (c .before .find2 .ensures) (c .if2 .left) in
+    sym (on-deadline p ∙ ap (λ (x : Numbers). numbersLine (wordThen (Number (id (before-cost (before-period (before-deadline p))))) (wordThen (Number (cost (before-period (before-deadline p)))) (wordThen (Number (period (before-deadline p))) (wordThen (Number (deadline p)) x))))) left)
 
 pub read-content-spec : {M : Type 1} → statement M
 read-content-spec =

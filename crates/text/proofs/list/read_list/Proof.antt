@@ -8,7 +8,8 @@ use Rattle.records.specs.declared.job.Job.{Job}
 use Rattle.text.specs.declared.words.Mark.the-variants.{LineEnd}
 use Rattle.text.specs.declared.list.LineAnswer.{LineAnswer}
 use Rattle.text.specs.Lists.{isMark, lines, readLine, Reading, given, withLine, readLines, tabled, listOutcome, ListsOn, readList}
-use Rattle.text.proofs.Parsing.{before-within, lines-next, lines-end}
+use Rattle.text.proofs.Parsing.{before-within}
+use Rattle.text.proofs.Listing.{lines-next, lines-end}
 use Rattle.text.proofs.list.read_list.Statement.{statement}
 use Rattle.text.proofs.list.read_list.Tie as tie
 

@@ -1,5 +1,5 @@
 use mathlib.Core.Path.{refl}
-use Rattle.text.proofs.Parsing.{on-line, on-faulty, on-skipped, on-wrong, on-full, on-found}
+use Rattle.text.proofs.Listing.{on-line, on-faulty, on-skipped, on-wrong, on-full, on-found}
 use borrow.Author.Needs.{needs}
 use Rattle.text.proofs.list.with_line.Statement.{statement}
 use Rattle.text.proofs.list.with_line.Tie as tie

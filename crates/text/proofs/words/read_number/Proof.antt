@@ -1,6 +1,6 @@
-use mathlib.Core.Bool.{true}
-use Prim.Native.Nat.{_+_, _*_, _-_, _<_, _≤_, min}
+use Prim.Native.Nat.{ℕ, _+_, _*_, _-_, _<_, _≤_, min}
 use mathlib.Core.Path.{_≡_, refl, sym, _∙_}
+use mathlib.Core.Bool.{true}
 use native.Mathlib.Omega.{arith}
 use lib.ListN.{length, getD, drop}
 use borrow.Author.Needs.{needs}
@@ -36,11 +36,14 @@ returns c =
 
 -- Past a byte that is a digit.
 module _ (c : tie.Else1 Inv-loop μ-loop) where
-  is : isDigit (getD (c .before .before .before .before .before .before .args .word .now) (c .before .before .before .before .loop .i) 0) ≡ true
+  abbrev byte : ℕ
+  byte = getD (c .before .before .before .before .before .before .args .word .now) (c .before .before .before .before .loop .i) 0
+
+  is : isDigit byte ≡ true
   is = sym (c .before .is-digit .ensures) ∙ not-false _ (c .if1 .left)
 
-  range : (digit 0 ≤ getD (c .before .before .before .before .before .before .args .word .now) (c .before .before .before .before .loop .i) 0) × (getD (c .before .before .before .before .before .before .args .word .now) (c .before .before .before .before .loop .i) 0 ≤ digit 9)
-  range = digit-range _ is
+  range : (digit 0 ≤ byte) × (byte ≤ digit 9)
+  range = digit-range byte is
 
 mul-capped : tie.Need-mul-capped Inv-loop μ-loop
 mul-capped c = search needs
