@@ -52,7 +52,8 @@ isDigit byte = leb (digit 0) byte && leb byte (digit 9)
 
 -- ---- lines and words
 
--- The parts of a text between the bytes at which the test holds, `part` being the bytes of the first part before the text.
+-- The parts of a text between the bytes at which the test holds, empty ones too; `part` has the bytes of the first part that stand
+-- before the text.
 abbrev pub partsFrom : (ℕ → Bool) → List ℕ → List ℕ → List (List ℕ)
 partsFrom between part [] = part ∷ []
 partsFrom between part (byte ∷ text) = cond (between byte) (part ∷ partsFrom between [] text) (partsFrom between (part ++ (byte ∷ [])) text)
@@ -60,11 +61,12 @@ partsFrom between part (byte ∷ text) = cond (between byte) (part ∷ partsFrom
 abbrev pub parts : (ℕ → Bool) → List ℕ → List (List ℕ)
 parts between text = partsFrom between [] text
 
--- The text before the first byte at which the test holds.
+-- The text before the first byte at which the test holds, or all of it.
 abbrev pub before : (ℕ → Bool) → List ℕ → List ℕ
 before stop [] = []
 before stop (byte ∷ text) = cond (stop byte) [] (byte ∷ before stop text)
 
+-- The parts that have a byte.
 abbrev pub nonEmpty : List (List ℕ) → List (List ℕ)
 nonEmpty [] = []
 nonEmpty ([] ∷ rest) = nonEmpty rest
@@ -74,12 +76,13 @@ nonEmpty ((byte ∷ part) ∷ rest) = (byte ∷ part) ∷ nonEmpty rest
 abbrev pub lines : List ℕ → List (List ℕ)
 lines text = parts (isMark LineEnd) text
 
--- The words: runs of bytes that are not blank, as long as can be.
+-- The words of a line: the longest runs of bytes that are not blank.
 abbrev pub words : List ℕ → List (List ℕ)
 words content = nonEmpty (parts (isMark Blank) content)
 
 -- ---- numbers
 
+-- Each byte is a digit.
 abbrev pub allDigits : List ℕ → Bool
 allDigits [] = true
 allDigits (byte ∷ word) = isDigit byte && allDigits word
@@ -89,7 +92,7 @@ abbrev pub valueFrom : ℕ → List ℕ → ℕ
 valueFrom n [] = n
 valueFrom n (byte ∷ word) = valueFrom (n * 10 + (byte - digit 0)) word
 
--- A word as a number of at most `limit`.
+-- A word as a number of at most `limit`: its bytes are digits, and what they stand for is not too large.
 unfoldable pub numberOf : ℕ → List ℕ → WordAnswer
 numberOf limit word = cond (allDigits word) (cond (leb (valueFrom 0 word) limit) (Number (valueFrom 0 word)) (Wrong TooLarge)) (Wrong NotANumber)
 
@@ -104,7 +107,7 @@ wordThen (Number n) (numbers others) = numbers (n ∷ others)
 wordThen (Number n) (wrong fault) = wrong fault
 wordThen (Wrong fault) others = wrong fault
 
--- As many words as limits, each a number of at most its limit.
+-- As many words as limits, each a number of at most its limit. The first faulty word decides, then the number of words.
 abbrev pub readNumbers : List ℕ → List (List ℕ) → Numbers
 readNumbers [] [] = numbers []
 readNumbers [] (word ∷ rest) = wrong NotFour
@@ -113,7 +116,7 @@ readNumbers (limit ∷ limits) (word ∷ rest) = wordThen (numberOf limit word) 
 
 -- ---- a line
 
--- What a record holds of id, cost, period and deadline.
+-- The largest id, cost, period and deadline that a record holds.
 abbrev pub fieldLimits : List ℕ
 fieldLimits = 255 ∷ 65535 ∷ 65535 ∷ 65535 ∷ []
 
