@@ -146,9 +146,9 @@ refusalOf (Refused refusal) = refusal
 abbrev pub bytesOf : List Job → List ℕ
 bytesOf jobs = flat jobBytes jobs
 
--- Refusals 1, 2, 3, 5 and 12 of a table of n jobs and an output of `room` bytes.
-abbrev pub writeTests : ℕ → List Job → ℕ → Tests
-writeTests n jobs room = tableTests n jobs ++ ((leb (jobSize * n) room, 12) ∷ [])
+-- The bytes of n jobs of a table, and the rest of the output.
+abbrev pub jobsWritten : ℕ → List Job → List ℕ → List ℕ
+jobsWritten n jobs output = bytesOf (take n jobs) ++ drop (jobSize * n) output
 
 -- What a writer answers, in 01's numbers and values: the number of bytes.
 abbrev pub wroteAnswer : Wrote → Answer ℕ
@@ -161,9 +161,12 @@ roomTests n room = (leb (jobSize * n) room, 12) ∷ []
 
 -- The outcome of write_records, which judges the count and the room alone: the number of bytes, and the output at exit.
 unfoldable pub writeRecords : ℕ → List Job → List ℕ → Answer ℕ × List ℕ
-writeRecords n jobs output = outcome (countTests n ++ roomTests n (length output)) (jobSize * n) (bytesOf (take n jobs) ++ drop (jobSize * n) output) output
+writeRecords n jobs output = outcome (countTests n ++ roomTests n (length output)) (jobSize * n) (jobsWritten n jobs output) output
+
+-- Refusals 1, 2, 3, 5 and 12 of a table of n jobs and an output of `room` bytes.
+abbrev pub writeTests : ℕ → List Job → ℕ → Tests
+writeTests n jobs room = tableTests n jobs ++ roomTests n room
 
 -- The outcome of write_jobs: the number of bytes, and the output at exit.
 unfoldable pub writeJobs : ℕ → List Job → List ℕ → Answer ℕ × List ℕ
-writeJobs n jobs output =
-    outcome (writeTests n jobs (length output)) (jobSize * n) (bytesOf (take n jobs) ++ drop (jobSize * n) output) output
+writeJobs n jobs output = outcome (writeTests n jobs (length output)) (jobSize * n) (jobsWritten n jobs output) output

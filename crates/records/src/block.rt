@@ -96,10 +96,5 @@ pub fn write_jobs(table: [Job; Job::MOST], n: usize, output: &mut [u8]) -> Wrote
     if let Verdict::Turned(refusal) = judged {
         return Wrote::NotWritten(refusal);
     }
-    let size = Job::SIZE * n;
-    if output.len() < size {
-        return Wrote::NotWritten(Refusal::OutputLength);
-    }
-    bytes::encode(table, n, &mut *output);
-    Wrote::Bytes(size)
+    write_records(table, n, &mut *output)
 }
