@@ -1,0 +1,91 @@
+//! Measures the product's compiled code against Rust code, both sides in one run, and prints a line
+//! for each figure.
+//!
+//! Words: `quick` measures less; `seed=N` draws other lists; letters such as `ad` name the measures
+//! to run instead of all.
+
+mod calls;
+mod families;
+mod library;
+mod lists;
+mod measures;
+mod plain;
+mod pruned;
+mod random;
+mod report;
+mod same;
+mod timing;
+
+use measures::Scale;
+use std::time::Duration;
+use timing::Effort;
+
+/// A measure with its letter.
+type Measure = (char, fn(&Scale));
+
+const MEASURES: [Measure; 5] = [
+    ('a', measures::same_algorithm::run),
+    ('b', measures::pruned_search::run),
+    ('c', measures::slowest_list::run),
+    ('d', measures::hand_ins::run),
+    ('e', measures::mean_plan::run),
+];
+
+/// What the words on the command line ask for.
+struct Request {
+    quick: bool,
+    seed: u64,
+    letters: String,
+}
+
+impl Request {
+    fn of_words(words: impl Iterator<Item = String>) -> Option<Request> {
+        let mut request = Request {
+            quick: false,
+            seed: 1,
+            letters: MEASURES.map(|(letter, _)| letter).iter().collect(),
+        };
+        let all = request.letters.clone();
+        let is_letter = |letter| all.contains(letter);
+        for word in words {
+            if word == "quick" {
+                request.quick = true;
+            } else if let Some(seed) = word.strip_prefix("seed=") {
+                request.seed = seed.parse().ok()?;
+            } else if word.chars().all(is_letter) {
+                request.letters = word;
+            } else {
+                return None;
+            }
+        }
+        Some(request)
+    }
+
+    fn scale(&self) -> Scale {
+        let pick = |quick: usize, full: usize| if self.quick { quick } else { full };
+        Scale {
+            seed: self.seed,
+            lists: pick(100, 400),
+            hand_ins: 3000,
+            pruned_lists: pick(10, 40),
+            search_work: pick(200_000_000, 8_000_000_000) as u64,
+            effort: Effort {
+                pairs: pick(15, 61),
+                batch_time: Duration::from_millis(4),
+            },
+        }
+    }
+}
+
+fn main() {
+    let Some(request) = Request::of_words(std::env::args().skip(1)) else {
+        eprintln!("usage: run [quick] [seed=N] [letters of measures]");
+        std::process::exit(2);
+    };
+    println!("seed {}", request.seed);
+    for (letter, run) in MEASURES {
+        if request.letters.contains(letter) {
+            run(&request.scale());
+        }
+    }
+}

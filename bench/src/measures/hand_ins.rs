@@ -1,0 +1,34 @@
+//! Measure d: hand-ins marked per second, full configurations of 8 jobs.
+
+use crate::calls::Case;
+use crate::library;
+use crate::lists::{self, Kind};
+use crate::measures::{check_marks, time_marks, Scale};
+use crate::random::Random;
+use crate::report;
+use crate::same::{marker, MOST_JOBS};
+
+const RANGE: (u8, u8) = (1, 64);
+
+/// A hand-in: half of them, where the planner places every job, its plan; otherwise any full
+/// configuration.
+fn hand_in(random: &mut Random) -> Case {
+    let kind = Kind::any(random);
+    let load = random.real(0.6, 0.95);
+    let jobs = lists::list(random, kind, MOST_JOBS, load);
+    let settings = lists::settings(random, &jobs, RANGE, true);
+    let mut case = Case::mark(&jobs, RANGE, &settings);
+    let answer = case.planned(library::plan);
+    if answer.placed() == u8::MAX && random.once_in(2) {
+        case.configuration = answer.configuration.to_vec();
+    }
+    case
+}
+
+pub fn run(scale: &Scale) {
+    let random = &mut Random::of_measure(scale.seed, 4);
+    let cases: Vec<Case> = (0..scale.hand_ins).map(|_| hand_in(random)).collect();
+    check_marks(&cases, library::mark, marker::mark);
+    let times = time_marks(&cases, scale.effort, library::mark, marker::mark);
+    report::per_second("d hand-ins", &times, "rust");
+}

@@ -1,0 +1,87 @@
+//! The measures, a module for each.
+
+pub mod hand_ins;
+pub mod mean_plan;
+pub mod pruned_search;
+pub mod same_algorithm;
+pub mod slowest_list;
+
+use crate::calls::{Answer, Case, Mark, Plan};
+use crate::timing::{alternate, Effort, Sides};
+use std::hint::black_box;
+
+/// How much is measured.
+#[derive(Clone, Copy)]
+pub struct Scale {
+    pub seed: u64,
+    /// The number of random lists that are planned.
+    pub lists: usize,
+    /// The number of random lists with configurations that are marked: many, because a processor
+    /// foresees the branches of a few when they come again and again.
+    pub hand_ins: usize,
+    /// The number of lists on which the pruned search is run.
+    pub pruned_lists: usize,
+    /// The work that the search for the slowest list may spend.
+    pub search_work: u64,
+    pub effort: Effort,
+}
+
+/// Runs a call over all cases.
+fn pass(cases: &[Case], answer: &mut Answer, call: impl Fn(&Case, &mut Answer)) {
+    for case in cases {
+        call(black_box(case), answer);
+        black_box(&answer);
+    }
+}
+
+/// The mean seconds of two planners over the cases.
+pub fn time_plans(cases: &[Case], effort: Effort, ours: Plan, other: Plan) -> Sides {
+    let (mut mine, mut theirs) = (Answer::blank(), Answer::blank());
+    let times = alternate(
+        effort,
+        || {
+            pass(cases, &mut mine, |case, answer| {
+                case.call_plan(ours, answer)
+            })
+        },
+        || {
+            pass(cases, &mut theirs, |case, answer| {
+                case.call_plan(other, answer)
+            })
+        },
+    );
+    times.per(cases.len())
+}
+
+/// The same of two entries for bounds or marks.
+pub fn time_marks(cases: &[Case], effort: Effort, ours: Mark, other: Mark) -> Sides {
+    let (mut mine, mut theirs) = (Answer::blank(), Answer::blank());
+    let times = alternate(
+        effort,
+        || {
+            pass(cases, &mut mine, |case, answer| {
+                case.call_mark(ours, answer)
+            })
+        },
+        || {
+            pass(cases, &mut theirs, |case, answer| {
+                case.call_mark(other, answer)
+            })
+        },
+    );
+    times.per(cases.len())
+}
+
+/// Checks that two planners give the same words and bytes for every case.
+pub fn check_plans(cases: &[Case], ours: Plan, other: Plan) {
+    for case in cases {
+        assert_eq!(case.planned(ours), case.planned(other), "plans differ");
+    }
+}
+
+/// Checks that two entries for bounds or marks give the same words and bytes for every case.
+pub fn check_marks(cases: &[Case], ours: Mark, other: Mark) {
+    for case in cases {
+        assert_eq!(case.marked(ours), case.marked(other), "bounds differ");
+    }
+}

@@ -1,0 +1,166 @@
+//! The planner.
+
+use crate::same::job::{Jobs, Range};
+use crate::same::marker::{write_bounds, Bounds, BOUND_SIZE};
+use crate::same::order::subsets;
+use crate::same::quanta::Layer;
+use crate::same::response::{Iteration, Quanta, Shortcuts, Workload};
+use crate::same::setting::{write_settings, Setting, Settings, SETTING_SIZE};
+use crate::same::{contains, first_jobs, word, Refusal, MOST_JOBS};
+
+/// What a level asks: the jobs with their range of quanta, and those of them not yet placed.
+pub struct Question<'w, I> {
+    pub workload: &'w Workload<I>,
+    pub range: Range,
+    pub left: u8,
+}
+
+/// The set that a level takes, with its quanta.
+pub struct Taken {
+    pub set: u8,
+    pub quanta: Quanta,
+}
+
+/// The search for the set that a level takes.
+pub trait Search {
+    /// The set, if some set of the jobs left can be taken, and the number of sets considered.
+    fn take<I: Iteration>(&self, question: &Question<I>) -> (Option<Taken>, u16);
+}
+
+/// The search through the subsets in their order, the quanta found by raising.
+pub struct Raising;
+
+impl Search for Raising {
+    fn take<I: Iteration>(&self, question: &Question<I>) -> (Option<Taken>, u16) {
+        question.take_first(Layer::quanta)
+    }
+}
+
+impl<'w, I: Iteration> Question<'w, I> {
+    /// The layer of a set with another above.
+    pub fn layer(&self, set: u8, above: u8) -> Layer<'w, I> {
+        Layer {
+            workload: self.workload,
+            range: self.range,
+            set,
+            above,
+        }
+    }
+
+    /// The first subset of the jobs left that has quanta with the rest above, and the number of
+    /// sets considered.
+    pub fn take_first(
+        &self,
+        quanta_of: impl Fn(&Layer<'w, I>) -> Option<Quanta>,
+    ) -> (Option<Taken>, u16) {
+        let mut considered = 0;
+        for set in subsets(self.left) {
+            considered += 1;
+            if let Some(quanta) = quanta_of(&self.layer(set, self.left & !set)) {
+                return (Some(Taken { set, quanta }), considered);
+            }
+        }
+        (None, considered)
+    }
+}
+
+/// The plan so far.
+struct Progress {
+    left: u8,
+    considered: u16,
+    settings: Settings,
+    bounds: Bounds,
+}
+
+impl Progress {
+    fn new(jobs: &Jobs) -> Progress {
+        Progress {
+            left: first_jobs(jobs.count),
+            considered: 0,
+            settings: jobs.table.map(|job| Setting {
+                id: job.id,
+                ..Setting::default()
+            }),
+            bounds: [0; MOST_JOBS],
+        }
+    }
+
+    /// The taken set takes the level.
+    fn place<I: Iteration>(&mut self, workload: &Workload<I>, level: usize, taken: &Taken) {
+        let above = self.left & !taken.set;
+        let size = taken.set.count_ones();
+        for place in (0..MOST_JOBS).filter(|place| contains(taken.set, *place)) {
+            let id = self.settings[place].id;
+            self.settings[place] = Setting::in_layer(id, level as u8, size, taken.quanta[place]);
+            self.bounds[place] = workload.bound(&taken.quanta, taken.set, above, place);
+        }
+        self.left = above;
+    }
+}
+
+fn plan_levels<I: Iteration>(
+    jobs: &Jobs,
+    range: Range,
+    workload: &Workload<I>,
+    search: impl Search,
+) -> Progress {
+    let mut progress = Progress::new(jobs);
+    for level in (1..=jobs.count).rev() {
+        let (taken, considered) = search.take(&Question {
+            workload,
+            range,
+            left: progress.left,
+        });
+        progress.considered += considered;
+        let Some(taken) = taken else {
+            break;
+        };
+        progress.place(workload, level, &taken);
+    }
+    progress
+}
+
+/// An iteration and a search: what one planner differs in from another.
+pub struct Method<I, S>(pub I, pub S);
+
+impl<I: Iteration, S: Search> Method<I, S> {
+    /// Plans a job block for a range of quanta: the answer's word.
+    pub fn plan(
+        self,
+        block: &[u8],
+        low: u8,
+        high: u8,
+        configuration: &mut [u8],
+        bounds: &mut [u8],
+    ) -> u32 {
+        word(self.planned(block, low, high, configuration, bounds))
+    }
+
+    fn planned(
+        self,
+        block: &[u8],
+        low: u8,
+        high: u8,
+        configuration: &mut [u8],
+        bounds: &mut [u8],
+    ) -> Result<u32, Refusal> {
+        let Method(iteration, search) = self;
+        let jobs = Jobs::read(block)?;
+        let count = jobs.count;
+        let range = Range::new(low, high)?;
+        if configuration.len() < SETTING_SIZE * count || bounds.len() < BOUND_SIZE * count {
+            return Err(12);
+        }
+        let workload = Workload::new(jobs.table, iteration);
+        let progress = plan_levels(&jobs, range, &workload, search);
+        write_settings(&progress.settings[..count], configuration);
+        write_bounds(&progress.bounds[..count], bounds);
+        let placed = first_jobs(count) & !progress.left;
+        Ok(u32::from(placed) | u32::from(progress.considered) << 8)
+    }
+}
+
+/// Plans a job block by the product's algorithm.
+pub fn plan(block: &[u8], low: u8, high: u8, configuration: &mut [u8], bounds: &mut [u8]) -> u32 {
+    Method(Shortcuts, Raising).plan(block, low, high, configuration, bounds)
+}
