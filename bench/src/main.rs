@@ -5,6 +5,7 @@
 //! to run instead of all.
 
 mod calls;
+mod counted;
 mod families;
 mod library;
 mod lists;

@@ -70,7 +70,7 @@ impl<I: Iteration> Layer<'_, I> {
 }
 
 /// The search through the subsets in the product's order, the quanta lists enumerated.
-struct InOrder;
+pub struct InOrder;
 
 impl Search for InOrder {
     fn take<I: Iteration>(&self, question: &Question<I>) -> (Option<Taken>, u16) {
@@ -79,7 +79,7 @@ impl Search for InOrder {
 }
 
 /// The same, every quanta list of a set that property 3 leaves.
-struct WholeLists;
+pub struct WholeLists;
 
 impl Search for WholeLists {
     fn take<I: Iteration>(&self, question: &Question<I>) -> (Option<Taken>, u16) {
@@ -88,7 +88,7 @@ impl Search for WholeLists {
 }
 
 /// The search of 000: the priority-search-tree, depth first.
-struct DepthFirst;
+pub struct DepthFirst;
 
 impl Search for DepthFirst {
     fn take<I: Iteration>(&self, question: &Question<I>) -> (Option<Taken>, u16) {

@@ -2,12 +2,15 @@
 //! lists of 8 jobs, range 1 to 5, that need a shared level.
 
 use crate::calls::{Case, Plan};
+use crate::counted::{work, Counted};
 use crate::library;
 use crate::lists::{self, Kind};
 use crate::measures::{check_plans, time_plans, Scale};
-use crate::pruned;
+use crate::pruned::{self, DepthFirst, InOrder, WholeLists};
 use crate::random::Random;
 use crate::report::{self, Goal};
+use crate::same::planner::{Question, Raising, Search, Taken};
+use crate::same::response::Iteration;
 use crate::same::MOST_JOBS;
 use crate::timing::{Effort, Sides};
 use std::slice::from_ref;
@@ -57,6 +60,41 @@ fn compare(cases: &[Case], effort: Effort, other: Plan) -> (Sides, Vec<f64>) {
     (sum.per(cases.len()), faster)
 }
 
+/// The product's search, of which the first test of each set alone is counted.
+struct FirstTests<'c>(&'c Counted);
+
+impl Search for FirstTests<'_> {
+    fn take<I: Iteration>(&self, question: &Question<I>) -> (Option<Taken>, u16) {
+        question.take_first(|layer| {
+            let within = layer.is_within_reach(&layer.lowest_quanta());
+            self.0.without(|| within.then(|| layer.quanta()).flatten())
+        })
+    }
+}
+
+/// The work over the lists of a search, in parts of that of the first tests.
+fn in_first_tests(cases: &[Case], work_of: impl Fn(&Case, &Counted) -> u64) -> f64 {
+    let sum = |work_of: &dyn Fn(&Case, &Counted) -> u64| -> u64 {
+        let each = |case| work_of(case, &Counted::default());
+        cases.iter().map(each).sum()
+    };
+    let first = sum(&|case, counted| work(case, counted, FirstTests(counted)));
+    sum(&work_of) as f64 / first as f64
+}
+
+/// How far any search that makes the first tests could come: the work of each search in parts of
+/// that of the product's first tests, all with the same response-time test.
+fn report_work(lists: &str, cases: &[Case]) {
+    let ours = in_first_tests(cases, |case, counted| work(case, counted, Raising));
+    let whole = in_first_tests(cases, |case, counted| work(case, counted, WholeLists));
+    let in_order = in_first_tests(cases, |case, counted| work(case, counted, InOrder));
+    let depth_first = in_first_tests(cases, |case, counted| work(case, counted, DepthFirst));
+    report::note(&format!(
+        "{lists}, work in parts of the first tests: ours {ours:.2}, whole lists {whole:.2}, \
+         in order {in_order:.2}, depth first {depth_first:.2}"
+    ));
+}
+
 pub fn run(scale: &Scale) {
     let random = &mut Random::of_measure(scale.seed, 2);
     let effort = Effort {
@@ -81,5 +119,6 @@ pub fn run(scale: &Scale) {
                 "over the lists: median {median:.1}, most {most:.1}"
             ));
         }
+        report_work(lists, &cases);
     }
 }

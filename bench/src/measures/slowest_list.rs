@@ -1,7 +1,8 @@
 //! Measure c: the slowest list that a search over heavy families finds, range 1 to 64, and the
 //! families against plain iteration.
 
-use crate::calls::{Answer, Case};
+use crate::calls::Case;
+use crate::counted::{work, Counted};
 use crate::families::{mutated, Family, FAMILIES};
 use crate::library;
 use crate::measures::{check_plans, time_plans, Scale};
@@ -9,10 +10,8 @@ use crate::plain;
 use crate::random::Random;
 use crate::report::{self, Goal};
 use crate::same::job::Job;
-use crate::same::planner::{self, Method, Raising};
-use crate::same::response::{Iteration, Shortcuts};
+use crate::same::planner::{self, Raising};
 use crate::timing::{Effort, Sides};
-use std::cell::Cell;
 use std::cmp::Reverse;
 
 /// The goal for the slowest list, in seconds.
@@ -35,29 +34,6 @@ const CALL_WORK: u64 = 1_000;
 /// The number of lists of each family from which the search starts.
 const STARTS: usize = 100;
 
-/// The iteration with both shortcuts, which counts its work: about one for each division.
-#[derive(Default)]
-struct Counted {
-    work: Cell<u64>,
-}
-
-impl Counted {
-    fn add(&self, work: u32) {
-        self.work.set(self.work.get() + u64::from(work));
-    }
-}
-
-impl Iteration for &Counted {
-    fn start(&self, own: u32, load: impl FnOnce() -> u64) -> Option<u64> {
-        self.add(2);
-        Shortcuts.start(own, load)
-    }
-
-    fn evaluates(&self, above: u8) {
-        self.add(1 + above.count_ones());
-    }
-}
-
 /// A list with the work that planning it takes.
 struct Weighed {
     work: u64,
@@ -66,13 +42,9 @@ struct Weighed {
 
 impl Weighed {
     fn new(jobs: Vec<Job>) -> Weighed {
-        let counted = Counted::default();
         let case = Case::plan(&jobs, RANGE);
-        let mut answer = Answer::blank();
-        let (configuration, bounds) = (&mut answer.configuration, &mut answer.bounds);
-        Method(&counted, Raising).plan(&case.jobs, case.low, case.high, configuration, bounds);
         Weighed {
-            work: counted.work.get(),
+            work: work(&case, &Counted::default(), Raising),
             jobs,
         }
     }

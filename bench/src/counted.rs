@@ -1,0 +1,48 @@
+//! The response-time test with both shortcuts, which counts its work.
+
+use crate::calls::{Answer, Case};
+use crate::same::planner::{Method, Search};
+use crate::same::response::{Iteration, Shortcuts};
+use std::cell::Cell;
+
+/// Counts about one for each division, as long as it is not paused.
+#[derive(Default)]
+pub struct Counted {
+    work: Cell<u64>,
+    paused: Cell<bool>,
+}
+
+impl Counted {
+    fn add(&self, work: u32) {
+        if !self.paused.get() {
+            self.work.set(self.work.get() + u64::from(work));
+        }
+    }
+
+    /// Runs something whose work is not counted.
+    pub fn without<R>(&self, run: impl FnOnce() -> R) -> R {
+        self.paused.set(true);
+        let result = run();
+        self.paused.set(false);
+        result
+    }
+}
+
+impl Iteration for &Counted {
+    fn start(&self, own: u32, load: impl FnOnce() -> u64) -> Option<u64> {
+        self.add(2);
+        Shortcuts.start(own, load)
+    }
+
+    fn evaluates(&self, above: u8) {
+        self.add(1 + above.count_ones());
+    }
+}
+
+/// The work of a planner with a search on a case.
+pub fn work<S: Search>(case: &Case, counted: &Counted, search: S) -> u64 {
+    let mut answer = Answer::blank();
+    let (configuration, bounds) = (&mut answer.configuration, &mut answer.bounds);
+    Method(counted, search).plan(&case.jobs, case.low, case.high, configuration, bounds);
+    counted.work.get()
+}
