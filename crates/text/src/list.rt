@@ -28,7 +28,7 @@ pub enum ListAnswer {
     Faulty(usize, Fault),
 }
 
-// The answer, with the table beside it; the table is blank past the jobs, and whole where a line is faulty.
+// The answer, with the table beside it: blank past the jobs, and all of it blank where a line is faulty.
 pub struct ListRead {
     pub answer: ListAnswer,
     pub table: [Job; Job::MOST],
