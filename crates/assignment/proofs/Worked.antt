@@ -10,7 +10,7 @@ use Rattle.sets.specs.Sets.{has, rest, within, size, firstJobs}
 use Rattle.sets.specs.Order.{range, keep, ofSize, sizesFrom, inOrder, order, subsets, firstTaken, considered, consideredCount}
 use Rattle.records.specs.declared.job.Job.{Job}
 use Rattle.configuration.specs.declared.setting.Setting.{Setting}
-use Rattle.response.specs.Demand.{ceilDiv, work, interference, otherQuanta, layerShare, demand, least, bound}
+use Rattle.response.specs.Demand.{ceilDiv, work, interference, otherQuanta, layerShare, demand, least, finish, larger, run, largestResponse, bound}
 use Rattle.marker.specs.Bounds.{boundAt, boundsOf, passes}
 use Rattle.assignment.specs.Plan.{firstFrom, smallest, serves, quantaFor, settingIn, place, planFrom, start, plan}
 
@@ -56,5 +56,5 @@ cases =
     ∷ []
 
 pub worked : map (λ c. answered (c .0)) cases ≡ map (λ c. c .1) cases
-unfolding answered k2 k7 cases ones onesIn bitAnd every sum sumOver count listOf has rest within size firstJobs range keep ofSize sizesFrom inOrder order subsets firstTaken considered consideredCount ceilDiv work interference otherQuanta layerShare demand least bound boundAt firstFrom smallest serves quantaFor settingIn place planFrom start plan
+unfolding answered k2 k7 cases ones onesIn bitAnd every sum sumOver count listOf has rest within size firstJobs range keep ofSize sizesFrom inOrder order subsets firstTaken considered consideredCount ceilDiv work interference otherQuanta layerShare demand least finish larger run largestResponse bound boundAt firstFrom smallest serves quantaFor settingIn place planFrom start plan
 worked = refl

@@ -71,6 +71,8 @@ fn main() {
     print_edit(table(), 3, 0, 0, 12, 10);
     print_edit(table(), 3, 0, 11, 12, 10);
     print_edit(table(), 3, 0, 3, 9, 10);
+    print_edit(table(), 3, 0, 10, 9, 10);
     print_edit(table(), 3, 0, 3, 60001, 10);
+    print_edit(table(), 3, 0, 3, 9, 60001);
     print_edit(table(), 8, 0, 60000, 60000, 60000);
 }

@@ -11,7 +11,7 @@ use Rattle.records.specs.Jobs.{jobOf, timesOk, jobList}
 use Rattle.records.proofs.Cases.{row}
 use Rattle.configuration.specs.Settings.{settingBytes}
 use Rattle.configuration.specs.Configuration.{placedLevel, shaped, levelled}
-use Rattle.response.specs.Demand.{ceilDiv, work, interference, otherQuanta, layerShare, demand, least, bound}
+use Rattle.response.specs.Demand.{ceilDiv, work, interference, otherQuanta, layerShare, demand, least, finish, larger, run, largestResponse, bound}
 use Rattle.marker.specs.Bounds.{quantaOf, layerOf, aboveOf, boundAt}
 use Rattle.marker.specs.Marks.{boundsOutcome, markOutcome, settingsOf}
 
@@ -79,10 +79,10 @@ cases =
     ∷ []
 
 pub worked : map answered cases ≡ map (λ c. c .answers) cases
-unfolding answered filled refuses k2 k7 shared apart third cases row every sum sumOver count listOf wordBytes flat chunks jobOf timesOk settingBytes placedLevel shaped levelled ceilDiv work interference otherQuanta layerShare demand least bound boundAt boundsOutcome markOutcome
+unfolding answered filled refuses k2 k7 shared apart third cases row every sum sumOver count listOf wordBytes flat chunks jobOf timesOk settingBytes placedLevel shaped levelled ceilDiv work interference otherQuanta layerShare demand least finish larger run largestResponse bound boundAt boundsOutcome markOutcome
 worked = refl
 
 -- "In K2, 4 and 4 gives the first job 14."
-pub largest-quanta : let settings = settingsOf k2 (shared 4 4) in demand (jobList k2) (quantaOf settings) (layerOf settings 2) (aboveOf settings 2) 0 14 ≡ 14
+pub largest-quanta : let settings = settingsOf k2 (shared 4 4) in demand (jobList k2) (quantaOf settings) (layerOf settings 2) (aboveOf settings 2) 0 6 14 ≡ 14
 unfolding k2 shared row sum sumOver listOf wordBytes chunks jobOf ceilDiv work interference otherQuanta layerShare demand
 largest-quanta = refl

@@ -36,8 +36,13 @@ cases =
     ∷ block (row 1 0 5 9 5) (given 1)
     ∷ block (row 1 0 6 9 5) (refused 5)
     ∷ block (row 1 0 5 9 9) (given 1)
-    ∷ block (row 1 0 5 9 10) (refused 5)
     ∷ block (row 1 0 0 9 9) (refused 5)
+    -- a deadline past the period, and the longest
+    ∷ block (row 1 0 5 9 10) (given 1)
+    ∷ block (row 1 0 1 1 60000) (given 1)
+    ∷ block (row 1 0 1 1 60001) (refused 5)
+    ∷ block (row 1 0 9 9 10) (given 1)
+    ∷ block (row 1 0 10 9 10) (refused 5)
     -- the size of the block
     ∷ block [] (refused 1)
     ∷ block (1 ∷ 0 ∷ 0 ∷ 1 ∷ 0 ∷ 9 ∷ 0 ∷ []) (refused 1)

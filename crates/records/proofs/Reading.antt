@@ -1,14 +1,14 @@
 -- What a caller of read_jobs knows from its answer: the laws by which later calls go on from a job block. Assumes nothing.
 use Prim.Native.Nat.{ℕ, _%_, _*_, _≤_, _<_}
 use mathlib.Core.Path.{_≡_, sym, ap, subst, _∙_}
-use mathlib.Core.Bool.{true, and-eq-true-iff, _&&_}
+use mathlib.Core.Bool.{true, false≢true}
 use mathlib.Core.List.{List, [], _++_}
+use native.Mathlib.Decide.{decLe}
 use native.Mathlib.Omega.{arith}
-use lib.Dec.{leb}
 use lib.ListN.{length}
-use borrow.Author.Tests.{leb-true, eqb-true, le-leb}
+use borrow.Author.Tests.{leb-true, eqb-true, le-leb, lt-leb}
 use Rattle.sets.proofs.Places.{every-at}
-use Rattle.records.specs.Limits.{longestPeriod, mostJobs}
+use Rattle.records.specs.Limits.{mostJobs}
 use Rattle.records.specs.Refusals.{Answer, number, Tests, outcome, turned, Accepts}
 use Rattle.records.specs.Jobs.{jobSize, jobOf, jobAt, timesOk, jobOkAt, jobTests, countTests, tableTests, AcceptedJobs, blockTests, jobCount, jobList, jobTable, jobsAnswer, jobsOutcome, readJobs}
 use Rattle.records.specs.declared.job.Job.{Job}
@@ -56,10 +56,10 @@ module _ (jobs : List Job) (ok : AcceptedJobs jobs) where
   cost-at i l = times-cost (jobAt jobs i .cost) (jobAt jobs i .period) (jobAt jobs i .deadline) (times-at i l)
     where
       times-cost : (cost period deadline : ℕ) → timesOk cost period deadline ≡ true → 1 ≤ cost
-      times-cost cost period deadline e =
-          let a = and-eq-true-iff (leb 1 cost && leb cost deadline && leb deadline period) (leb period longestPeriod) .0 e .0 in
-          let b = and-eq-true-iff (leb 1 cost && leb cost deadline) (leb deadline period) .0 a .0 in
-          leb-true 1 cost (and-eq-true-iff (leb 1 cost) (leb cost deadline) .0 b .0)
+      times-cost cost period deadline e = elim (decLe 1 cost) [
+        | yes h ↦ h
+        | no h ↦ absurd (false≢true (simp (lt-leb 1 cost (omega arith)) at e))
+      ]
 
 -- ---- after a call of read_jobs
 

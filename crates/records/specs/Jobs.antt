@@ -5,7 +5,7 @@ use mathlib.Core.Bool.{Bool, _&&_}
 use lib.ListN.{length, getD, take, drop}
 use lib.Dec.{ltb, leb, eqb}
 use Rattle.sets.specs.Places.{every}
-use Rattle.records.specs.Limits.{longestPeriod, mostJobs}
+use Rattle.records.specs.Limits.{longestPeriod, longestDeadline, mostJobs}
 use Rattle.records.specs.Refusals.{Answer, refused, given, number, Tests, outcome, Accepts}
 use Rattle.records.specs.Records.{word, wordBytes, flat, chunks, table}
 use Rattle.records.specs.declared.refusal.Refusal.{Refusal}
@@ -50,9 +50,10 @@ jobAt jobs i = getD jobs i blankJob
 
 -- ---- refusals 2, 3 and 5
 
--- Refusal 5 does not apply: 1 ≤ C ≤ D ≤ T ≤ 60,000.
+-- Refusal 5 does not apply: C is not 0, above its D or above its T, and neither T nor D is above 60,000 (01, 02's E1).
 unfoldable pub timesOk : ℕ → ℕ → ℕ → Bool
-timesOk cost period deadline = leb 1 cost && leb cost deadline && leb deadline period && leb period longestPeriod
+timesOk cost period deadline =
+    leb 1 cost && leb cost deadline && leb cost period && leb period longestPeriod && leb deadline longestDeadline
 
 -- What a rule asks of a job, `before` being the id of the job before it.
 abbrev pub jobOk : JobRule → ℕ → Job → Bool

@@ -5,6 +5,10 @@ use Rattle.sets.specs.Sets.{places}
 abbrev pub longestPeriod : ℕ
 longestPeriod = 60000
 
+-- The longest deadline: "D may now exceed T, up to 60,000" (02, E1).
+abbrev pub longestDeadline : ℕ
+longestDeadline = 60000
+
 abbrev pub longestQuantum : ℕ
 longestQuantum = 64
 

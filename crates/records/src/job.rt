@@ -21,6 +21,9 @@ impl Job {
     // The longest period, in ticks.
     pub const LONGEST_PERIOD: u16 = 60000;
 
+    // The longest deadline, in ticks; it may be longer than the period.
+    pub const LONGEST_DEADLINE: u16 = 60000;
+
     // The most jobs: as many as a set has places.
     pub const MOST: usize = sets::PLACES;
 
@@ -45,10 +48,13 @@ impl Job {
         if deadline < cost {
             return false;
         }
-        if period < deadline {
+        if period < cost {
             return false;
         }
-        period <= Job::LONGEST_PERIOD
+        if Job::LONGEST_PERIOD < period {
+            return false;
+        }
+        deadline <= Job::LONGEST_DEADLINE
     }
 
     // A job, or the first refusal that applies to its numbers.

@@ -1,17 +1,11 @@
 -- The iteration finds the least time that equals its demand. Assumes nothing.
 use mathlib.Core.Path.{_≡_, refl, sym, _∙_}
-use Prim.Native.Nat.{ℕ, zero, suc, _+_, _-_, _*_, _/_, _≤_, _<_}
+use Prim.Native.Nat.{ℕ, zero, suc, _+_, _-_, _*_, _/_, _≤_, _<_, max}
 use native.Mathlib.Decide.{decLe, ℕ-discrete}
 use native.Mathlib.Omega.{arith}
-use mathlib.Core.List.{List}
-use lib.ListN.{length, getD, List·getD-eq-default}
 use borrow.Author.Tests.{eq-eqb, ne-eqb, le-leb, lt-leb, lt-ltb, le-ltb}
-use Rattle.sets.specs.Sets.{Set}
-use Rattle.records.specs.Jobs.{blankJob, jobAt}
-use Rattle.response.specs.declared.workload.Workload.{Workload}
-use Rattle.response.specs.Demand.{ceilDiv, layerShare, least}
-use Rattle.response.specs.Search.{whole, climb, timeFor, boundBy}
-use Rattle.response.proofs.Division.{ceil-le}
+use Rattle.response.specs.Demand.{least}
+use Rattle.response.specs.Search.{whole, climb, timeFor}
 use Rattle.response.proofs.Least.{least-is, least-none}
 
 module _ (f : ℕ → ℕ) (d : ℕ) where
@@ -70,6 +64,16 @@ module _ (f : ℕ → ℕ) (d : ℕ) where
     pub rises : t ≤ f t
     pub least : (x : ℕ) → 1 ≤ x → x ≤ d → f x ≡ x → t ≤ x
 
+  -- So is 0, and the later of two such times.
+  pub below-zero : Below 0
+  below-zero = record { rises = omega arith; least = λ x h l e. omega arith }
+
+  pub below-later : {t u : ℕ} → Below t → Below u → Below (max t u)
+  below-later {t} {u} a b = elim (decLe t u) [
+    | yes h ↦ let e : max t u ≡ u = omega arith in rw e b
+    | no h ↦ let e : max t u ≡ t = omega arith in rw e a
+  ]
+
   module _ (mono : (x y : ℕ) → x ≤ y → f x ≤ f y) where
     below-next : {t : ℕ} → Below t → Below (f t)
     below-next {t} b = record { rises = mono t (f t) (b .rises); least = λ x h l e. omega (arith, mono t x (b .least x h l e), e) }
@@ -90,23 +94,16 @@ module _ (f : ℕ → ℕ) (d : ℕ) where
 
 -- ---- how the search starts
 
-module _ (f : ℕ → ℕ) (taken own d : ℕ) where
-  pub time-idle : own ≡ 0 → timeFor f taken own d ≡ climb (λ t. own + f t) d (suc d) 1
+module _ (f : ℕ → ℕ) (taken own d before : ℕ) where
+  pub time-idle : own ≡ 0 → timeFor f taken own d before ≡ climb (λ t. own + f t) d (suc d) (max 1 before)
   unfolding timeFor
   time-idle e = rw (eq-eqb own 0 e)
 
-  pub time-full : (own ≡ 0 → ⊥) → whole ≤ taken → timeFor f taken own d ≡ 0
+  pub time-full : (own ≡ 0 → ⊥) → whole ≤ taken → timeFor f taken own d before ≡ 0
   unfolding timeFor
   time-full e h = rw (ne-eqb own 0 e, le-leb whole taken h)
 
-  pub time-start : (own ≡ 0 → ⊥) → taken < whole → timeFor f taken own d ≡ climb (λ t. own + f t) d (suc d) (own * whole / (whole - taken))
+  pub time-start : (own ≡ 0 → ⊥) → taken < whole
+      → timeFor f taken own d before ≡ climb (λ t. own + f t) d (suc d) (max (own * whole / (whole - taken)) before)
   unfolding timeFor
   time-start e h = rw (ne-eqb own 0 e, lt-leb whole taken h)
-
--- A place past the table has no job, and no bound.
-pub by-past : (w : Workload) (quanta : List ℕ) (layer above : Set) (k : ℕ) → length (w .jobs) ≤ k → boundBy w quanta layer above k ≡ 0
-unfolding boundBy layerShare
-by-past w quanta layer above k l =
-    let blank : jobAt (w .jobs) k ≡ blankJob = List·getD-eq-default (w .jobs) blankJob l in
-    let cycles : ceilDiv 0 (getD quanta k 0) ≡ 0 = let h = ceil-le 0 (getD quanta k 0) in omega arith in
-    rw (blank, cycles) (time-idle _ _ _ 0 (omega arith) ∙ loop-past _ 0 (omega arith))

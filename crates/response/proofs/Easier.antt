@@ -3,8 +3,9 @@ use mathlib.Core.Path.{_≡_, refl, sym, _∙_, ap, ap₂, fun-ext}
 use mathlib.Core.Bool.{Bool, true, false, not, _&&_, and-eq-true-iff, false≢true}
 use mathlib.Core.Logic.{_↔_, _≢_}
 use mathlib.Core.List.{List}
-use Prim.Native.Nat.{ℕ, _+_, _*_, _≤_, _<_}
+use Prim.Native.Nat.{ℕ, suc, _+_, _*_, _≤_, _<_}
 use native.Mathlib.Nat.{le-refl, mul-le-mul, mul-le-mul-right, mul-le-mul-left, mul-zero}
+use native.Mathlib.Decide.{ℕ-discrete}
 use native.Mathlib.Omega.{arith}
 use lib.Dec.{eqb}
 use lib.ListN.{length, getD, take}
@@ -15,9 +16,10 @@ use Rattle.sets.specs.Places.{sumOver}
 use Rattle.sets.proofs.Places.{over-mono, over-same, over-zero, over-cut}
 use Rattle.records.specs.Jobs.{blankJob, jobAt}
 use Rattle.records.specs.declared.job.Job.{Job}
-use Rattle.response.specs.Demand.{ceilDiv, work, interference, otherQuanta, layerShare, demand, least, bound}
+use Rattle.response.specs.Demand.{ceilDiv, work, interference, otherQuanta, layerShare, demand, least, oneInstanceBound, finish, Reached, none, larger, responseOf, run, mostInstances, largestResponse, bound}
 use Rattle.response.proofs.Division.{ceil-mono, ceil-anti}
-use Rattle.response.proofs.Least.{Rising, served-exactly, sooner}
+use Rattle.response.proofs.Least.{Rising, least-found, served-exactly, sooner}
+use Rattle.response.proofs.Runs.{larger-max, run-none, run-closed, run-sooner}
 
 -- ---- interference
 
@@ -63,20 +65,34 @@ others-alone n k q s a = over-zero n (λ i. s i && not (eqb i k)) _ (λ i il e. 
 abbrev pub Lighter : ℕ → ℕ → List ℕ → Set → List ℕ → Set → Type 0
 Lighter n k q s q′ s′ = (own : ℕ) → layerShare n q′ s′ k own ≤ layerShare n q s k own
 
-rising : (jobs : List Job) (q : List ℕ) (s a : Set) (k : ℕ) → 0 < jobAt jobs k .cost → Rising (demand jobs q s a k)
+rising : (jobs : List Job) (q : List ℕ) (s a : Set) (k own : ℕ) → 0 < own → Rising (demand jobs q s a k own)
 unfolding demand
-rising jobs q s a k p = record {
-  pos = λ t. omega arith;
+rising jobs q s a k own p = record {
+  pos = λ t h. omega arith;
   mono = λ t u h. omega (arith, interference-mono jobs a a t u (λ i l e. e) h);
 }
+
+-- Each instance has own work.
+works : (cost j : ℕ) → 0 < cost → 0 < suc j * cost
+works cost j p = omega (arith, mul-le-mul-right {m = 1} {n = suc j} cost (omega arith))
+
+-- Each finish that is in reach stays in reach, and is no later.
+finish-sooner : (jobs : List Job) (k : ℕ) (q q′ : List ℕ) (s s′ a a′ : Set) → 0 < jobAt jobs k .cost
+    → Lighter (length jobs) k q s q′ s′ → Sub (length jobs) a′ a
+    → (j : ℕ) → 0 < finish jobs q s a k j → (0 < finish jobs q′ s′ a′ k j) × (finish jobs q′ s′ a′ k j ≤ finish jobs q s a k j)
+unfolding finish demand
+finish-sooner jobs k q q′ s s′ a a′ p h ha j b =
+    let own = suc j * jobAt jobs k .cost in
+    sooner (demand jobs q s a k own) (demand jobs q′ s′ a′ k own) (rising jobs q′ s′ a′ k own (works (jobAt jobs k .cost) j p))
+    (λ t. omega (arith, h own, interference-mono jobs a′ a t t ha (le-refl t))) (j * jobAt jobs k .period + jobAt jobs k .deadline) b
 
 pub easier : (jobs : List Job) (k : ℕ) (q q′ : List ℕ) (s s′ a a′ : Set) → 0 < jobAt jobs k .cost
     → Lighter (length jobs) k q s q′ s′ → Sub (length jobs) s′ s → Sub (length jobs) a′ a
     → 0 < bound jobs q s a k → 0 < bound jobs q′ s′ a′ k
-unfolding bound demand
+unfolding bound largestResponse
 easier jobs k q q′ s s′ a a′ p h hs ha b =
-    sooner (demand jobs q s a k) (demand jobs q′ s′ a′ k) (rising jobs q′ s′ a′ k p)
-    (λ t. omega (arith, h (jobAt jobs k .cost), interference-mono jobs a′ a t t ha (le-refl t))) (jobAt jobs k .deadline) b .0
+    run-sooner (finish jobs q s a k) (finish jobs q′ s′ a′ k) (jobAt jobs k .period) (finish-sooner jobs k q q′ s s′ a a′ p h ha)
+    mostInstances 0 none none (λ g. omega arith) b
 
 -- The same quanta, and fewer jobs.
 pub lighter-drop : (n k : ℕ) (q : List ℕ) (s s′ : Set) → Sub n s′ s → Lighter n k q s q s′
@@ -95,12 +111,17 @@ lighter-alone n k q q′ s s′ a own = rw (others-alone n k q′ s′ a, mul-ze
 
 -- ---- what the bound goes by
 
+-- The bound of a job with a demand f for so much own work.
+abbrev boundFor : (ℕ → ℕ → ℕ) → Job → ℕ
+boundFor f job = run (λ j. least (f (suc j * job .cost)) (j * job .period + job .deadline) 1) (job .period) mostInstances 0 none .response
+
 share-same : (jobs : List Job) (k : ℕ) (q q′ : List ℕ) (s s′ a a′ : Set)
     → ((own : ℕ) → layerShare (length jobs) q s k own ≡ layerShare (length jobs) q′ s′ k own)
     → ((i : ℕ) → i < length jobs → a i ≡ a′ i) → bound jobs q s a k ≡ bound jobs q′ s′ a′ k
-unfolding bound demand
+unfolding bound largestResponse finish demand
 share-same jobs k q q′ s s′ a a′ h g =
-    ap (λ (f : ℕ → ℕ). least f (jobAt jobs k .deadline) 1) (fun-ext (λ t. omega (arith, h (jobAt jobs k .cost), interference-same jobs a a′ t g)))
+    let same : (own t : ℕ) → demand jobs q s a k own t ≡ demand jobs q′ s′ a′ k own t = λ own t. omega (arith, h own, interference-same jobs a a′ t g) in
+    ap (λ (f : ℕ → ℕ → ℕ). boundFor f (jobAt jobs k)) (fun-ext (λ own. fun-ext (same own)))
 
 -- It goes by the quanta of the layer's jobs, by who is in the layer and by who is above.
 pub bound-same : (jobs : List Job) (k : ℕ) (q q′ : List ℕ) (s s′ a a′ : Set) → getD q k 0 ≡ getD q′ k 0
@@ -122,15 +143,12 @@ bound-alone jobs k q q′ s s′ a a′ x y g =
 -- It sees a table as it sees the list that the table begins with, if the sets have no place past it.
 pub bound-take : (n : ℕ) (jobs : List Job) (q : List ℕ) (s a : Set) (k : ℕ) → n ≤ length jobs → k < n
     → ((i : ℕ) → n ≤ i → s i ≡ false) → ((i : ℕ) → n ≤ i → a i ≡ false) → bound jobs q s a k ≡ bound (take n jobs) q s a k
-unfolding bound demand layerShare interference otherQuanta
+unfolding bound largestResponse finish demand layerShare interference otherQuanta
 bound-take n jobs q s a k h kn hs ha =
-    ap₂ (λ (f : ℕ → ℕ) (d : ℕ). least f d 1) (fun-ext same) (ap (λ (job : Job). job .deadline) (sym own))
+    ap₂ boundFor (fun-ext (λ own. fun-ext (same own))) (sym (getD-take n jobs k blankJob kn))
   where
     size : length (take n jobs) ≡ n
     size = length-take-le n jobs h
-
-    own : jobAt (take n jobs) k ≡ jobAt jobs k
-    own = getD-take n jobs k blankJob kn
 
     others : otherQuanta (length jobs) q s k ≡ otherQuanta (length (take n jobs)) q s k
     others =
@@ -144,14 +162,34 @@ bound-take n jobs q s a k h kn hs ha =
         ∙ over-same n a a _ (λ i. work (jobAt (take n jobs) i) t) (λ i l. refl) (λ i l e. ap (λ (job : Job). work job t) (sym (getD-take n jobs i blankJob l)))
         ∙ ap (λ (m : ℕ). sumOver m a (λ i. work (jobAt (take n jobs) i) t)) (sym size)
 
-    same : (t : ℕ) → demand jobs q s a k t ≡ demand (take n jobs) q s a k t
-    same t =
-        ap₂ (λ (x y : ℕ). jobAt jobs k .cost + ceilDiv (jobAt jobs k .cost) (getD q k 0) * x + y) others (above t)
-        ∙ ap (λ (job : Job). job .cost + ceilDiv (job .cost) (getD q k 0) * otherQuanta (length (take n jobs)) q s k + interference (take n jobs) a t) (sym own)
+    same : (own t : ℕ) → demand jobs q s a k own t ≡ demand (take n jobs) q s a k own t
+    same own t = ap₂ (λ (x y : ℕ). own + ceilDiv own (getD q k 0) * x + y) others (above t)
 
--- ---- the bound is not 0 exactly if some time from 1 to the deadline covers its demand
+-- ---- one instance
 
-pub served-by : (jobs : List Job) (q : List ℕ) (s a : Set) (k : ℕ) → 0 < jobAt jobs k .cost
-    → (0 < bound jobs q s a k) ↔ ((t : ℕ) × (0 < t) × (t ≤ jobAt jobs k .deadline) × (demand jobs q s a k t ≤ t))
-unfolding bound
-served-by jobs q s a k p = served-exactly (demand jobs q s a k) (rising jobs q s a k p) (jobAt jobs k .deadline)
+-- For a deadline up to the period the bound is the one of 01.
+pub one-instance : (jobs : List Job) (q : List ℕ) (s a : Set) (k : ℕ) → jobAt jobs k .deadline ≤ jobAt jobs k .period
+    → bound jobs q s a k ≡ oneInstanceBound jobs q s a k
+unfolding bound largestResponse finish oneInstanceBound larger
+one-instance jobs q s a k h =
+    let job = jobAt jobs k in
+    let f = finish jobs q s a k in
+    let own : 1 * job .cost ≡ job .cost = omega arith in
+    let limit : 0 * job .period + job .deadline ≡ job .deadline = omega arith in
+    let first : f 0 ≡ oneInstanceBound jobs q s a k = ap₂ (λ (x d : ℕ). least (demand jobs q s a k x) d 1) own limit in
+    elim (ℕ-discrete (f 0) 0) [
+      | yes z ↦ ap (λ (r : Reached). r .response) (run-none f (job .period) 63 0 none z) ∙ sym z ∙ first
+      | no z ↦
+          let w = least-found (demand jobs q s a k (1 * job .cost)) (0 * job .period + job .deadline) 1 (omega arith) in
+          ap (λ (r : Reached). r .response) (run-closed f (job .period) 63 0 none z (omega (arith, w .2)))
+          ∙ larger-max none (responseOf (job .period) 0 (f 0)) ∙ omega (arith, first)
+    ]
+
+-- An instance has its finish in reach exactly if some time in reach covers its demand.
+pub finishes-by : (jobs : List Job) (q : List ℕ) (s a : Set) (k j : ℕ) → 0 < jobAt jobs k .cost
+    → (0 < finish jobs q s a k j)
+    ↔ ((t : ℕ) × (0 < t) × (t ≤ j * jobAt jobs k .period + jobAt jobs k .deadline) × (demand jobs q s a k (suc j * jobAt jobs k .cost) t ≤ t))
+unfolding finish
+finishes-by jobs q s a k j p =
+    let own = suc j * jobAt jobs k .cost in
+    served-exactly (demand jobs q s a k own) (rising jobs q s a k own (works (jobAt jobs k .cost) j p)) (j * jobAt jobs k .period + jobAt jobs k .deadline)

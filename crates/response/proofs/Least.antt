@@ -49,23 +49,23 @@ least-first f (suc n) t x p l h e = elim (ℕ-discrete (f t) t) [
   | no g ↦ rw (least-miss f n t g) (least-first f n (suc t) x (omega arith) (elim (ℕ-discrete t x) [ yes z ↦ absurd (g (rw z e)) | no z ↦ omega arith ]) (omega arith) e)
 ]
 
--- A demand that rises with time and is never 0.
+-- A demand that rises with time and is 0 at no time from 1 on.
 pub record Rising (f : ℕ → ℕ) : Type 0 where
-  pub pos : (t : ℕ) → 0 < f t
+  pub pos : (t : ℕ) → 0 < t → 0 < f t
   pub mono : (t u : ℕ) → t ≤ u → f t ≤ f u
 
 module _ (f : ℕ → ℕ) (R : Rising f) where
   -- Below t no time covers its demand: then the demand at t is t as soon as t covers it.
-  meets : (t : ℕ) → ((y : ℕ) → 0 < y → y < t → y < f y) → f t ≤ t → f t ≡ t
-  meets t low h = elim (decLe t (f t)) [
+  meets : (t : ℕ) → 0 < t → ((y : ℕ) → 0 < y → y < t → y < f y) → f t ≤ t → f t ≡ t
+  meets t p low h = elim (decLe t (f t)) [
     | yes g ↦ omega arith
-    | no g ↦ absurd (omega (arith, low (f t) (R .pos t) (omega arith), R .mono (f t) t h))
+    | no g ↦ absurd (omega (arith, low (f t) (R .pos t p) (omega arith), R .mono (f t) t h))
   ]
 
   finds : (n t x : ℕ) → ((y : ℕ) → 0 < y → y < t → y < f y) → 0 < t → t ≤ x → x < t + n → f x ≤ x → (0 < least f n t) × (least f n t ≤ x)
   finds zero t x low tp tx xn fx = absurd (omega arith)
   finds (suc n) t x low tp tx xn fx = elim (decLe (f t) t) [
-    | yes g ↦ rw (least-hit f n t (meets t low g)) (tp, tx)
+    | yes g ↦ rw (least-hit f n t (meets t tp low g)) (tp, tx)
     | no g ↦
         rw (least-miss f n t (λ e. g (omega arith)))
         (finds n (suc t) x (λ y p l. elim (decLe t y) [

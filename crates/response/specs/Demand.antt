@@ -1,9 +1,9 @@
--- The response-time test (01), from source document 004, equations (7), (17) and (18), with the first term of (17)'s minimum only.
--- Assumes nothing.
+-- The response-time test (01, and 02's E1 for deadlines past the period), from source document 004, section 4.3 and equations (7), (17)
+-- and (18), with the first term of (17)'s minimum only. Assumes nothing.
 use Prim.Native.Nat.{ℕ, zero, suc, _+_, _*_, _/_, _-_}
 use mathlib.Core.Bool.{true, false, not, _&&_}
 use mathlib.Core.List.{List}
-use lib.Dec.{eqb}
+use lib.Dec.{eqb, leb, ltb}
 use lib.ListN.{length, getD}
 use Rattle.sets.specs.Places.{sumOver}
 use Rattle.sets.specs.Sets.{Set}
@@ -26,22 +26,69 @@ interference jobs above t = sumOver (length jobs) above (λ i. work (jobAt jobs 
 unfoldable pub otherQuanta : ℕ → List ℕ → Set → ℕ → ℕ
 otherQuanta n quanta layer k = sumOver n (λ i. layer i && not (eqb i k)) (λ i. getD quanta i 0)
 
--- What the layer adds for so much own work: "the cycles, C divided by its quantum and rounded up, times the sum of the other quanta".
--- A job alone on its level has no other quanta, so this is "0 for policy 1".
+-- What the layer adds for so much own work: "the cycles", own work "divided by its quantum and rounded up, times the sum of the other
+-- quanta". A job alone on its level has no other quanta, so this is "0 for policy 1".
 unfoldable pub layerShare : ℕ → List ℕ → Set → ℕ → ℕ → ℕ
 layerShare n quanta layer k own = ceilDiv own (getD quanta k 0) * otherQuanta n quanta layer k
 
--- The demand on the job at place k at time t: its own C, its layer's share and the interference.
-unfoldable pub demand : List Job → List ℕ → Set → Set → ℕ → ℕ → ℕ
-demand jobs quanta layer above k t =
-    jobAt jobs k .cost + layerShare (length jobs) quanta layer k (jobAt jobs k .cost) + interference jobs above t
+-- The demand on the job at place k at time t for so much own work: the own work, its layer's share for it and the interference.
+unfoldable pub demand : List Job → List ℕ → Set → Set → ℕ → ℕ → ℕ → ℕ
+demand jobs quanta layer above k own t = own + layerShare (length jobs) quanta layer k own + interference jobs above t
 
 -- Of n times from t on, the least that equals its demand f; 0 where there is none.
 unfoldable pub least : (ℕ → ℕ) → ℕ → ℕ → ℕ
 least f zero t = 0
 least f (suc n) t = elim (eqb (f t) t) [ true ↦ t | false ↦ least f n (suc t) ]
 
--- The bound of the job at place k in a layer with a set above: "the least t from 1 to D whose demand equals t. If there is none, the
--- bound is 0."
+-- 01's bound, of one instance: "the least t from 1 to D whose demand equals t. If there is none, the bound is 0."
+unfoldable pub oneInstanceBound : List Job → List ℕ → Set → Set → ℕ → ℕ
+oneInstanceBound jobs quanta layer above k = least (demand jobs quanta layer above k (jobAt jobs k .cost)) (jobAt jobs k .deadline) 1
+
+-- ---- instances (E1)
+
+-- The finish of instance j: "Instance j (from 0) has own work (j+1)·C, its cycles are taken of that work, and its finish is the least t
+-- that equals its demand." It is sought up to j·T + D: after a later one the response exceeds D. 0 where there is none.
+unfoldable pub finish : List Job → List ℕ → Set → Set → ℕ → ℕ → ℕ
+finish jobs quanta layer above k j =
+    least (demand jobs quanta layer above k (suc j * jobAt jobs k .cost)) (j * jobAt jobs k .period + jobAt jobs k .deadline) 1
+
+-- A response and the instance that has it.
+pub record Reached : Type 0 where
+  pub response : ℕ
+  pub instance : ℕ
+
+-- No response.
+abbrev pub none : Reached
+none = record { response = 0; instance = 0 }
+
+-- The larger response of an earlier instance and a later one; the earlier instance's where they are equal.
+unfoldable pub larger : Reached → Reached → Reached
+larger earlier later = elim (ltb (earlier .response) (later .response)) [ true ↦ later | false ↦ earlier ]
+
+-- "Its response is that finish less j·T."
+abbrev pub responseOf : ℕ → ℕ → ℕ → Reached
+responseOf period j finish = record { response = finish - j * period; instance = j }
+
+-- The largest response "up to the first instance that finishes by (j+1)·T", among n instances from j on and the largest of those before;
+-- none where a finish does not exist in reach or the last of the n instances still runs past its (j+1)·T.
+unfoldable pub run : (ℕ → ℕ) → ℕ → ℕ → ℕ → Reached → Reached
+run finishes period zero j before = none
+run finishes period (suc n) j before = elim (eqb (finishes j) 0) [
+  | true ↦ none
+  | false ↦ elim (leb (finishes j) (suc j * period)) [
+    | true ↦ larger before (responseOf period j (finishes j))
+    | false ↦ run finishes period n (suc j) (larger before (responseOf period j (finishes j)))
+  ]
+]
+
+-- "Instance 63 is reached and still runs past 64·T": instances 0 to 63 count.
+abbrev pub mostInstances : ℕ
+mostInstances = 64
+
+-- The largest response of the job at place k in a layer with a set above, and the first instance that reaches it.
+unfoldable pub largestResponse : List Job → List ℕ → Set → Set → ℕ → Reached
+largestResponse jobs quanta layer above k = run (finish jobs quanta layer above k) (jobAt jobs k .period) mostInstances 0 none
+
+-- The bound of the job at place k in a layer with a set above.
 unfoldable pub bound : List Job → List ℕ → Set → Set → ℕ → ℕ
-bound jobs quanta layer above k = least (demand jobs quanta layer above k) (jobAt jobs k .deadline) 1
+bound jobs quanta layer above k = largestResponse jobs quanta layer above k .response

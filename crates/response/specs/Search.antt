@@ -1,6 +1,6 @@
--- How the code finds a bound: by iteration, from a time that no bound is below. `bound-found` (proofs) says that this is the bound.
--- Assumes nothing.
-use Prim.Native.Nat.{ℕ, zero, suc, _+_, _*_, _/_, _-_, min}
+-- How the code finds a bound: each finish by iteration, from a time that no such time is below. `bound-found` (proofs) says that this is
+-- the bound. Assumes nothing.
+use Prim.Native.Nat.{ℕ, zero, suc, _+_, _*_, _/_, _-_, min, max}
 use mathlib.Core.Bool.{cond}
 use mathlib.Core.List.{List}
 use lib.Dec.{eqb, leb, ltb}
@@ -10,7 +10,7 @@ use Rattle.sets.specs.Sets.{Set}
 use Rattle.records.specs.Jobs.{jobAt}
 use Rattle.records.specs.declared.job.Job.{Job}
 use Rattle.response.specs.declared.workload.Workload.{Workload}
-use Rattle.response.specs.Demand.{interference, layerShare}
+use Rattle.response.specs.Demand.{ceilDiv, interference, otherQuanta, mostInstances}
 
 -- The whole processor, in the parts by which utilisation is counted.
 abbrev pub whole : ℕ
@@ -33,16 +33,38 @@ unfoldable pub climb : (ℕ → ℕ) → ℕ → ℕ → ℕ → ℕ
 climb f d zero t = 0
 climb f d (suc n) t = cond (leb t d) (cond (ltb t (f t)) (climb f d n (f t)) (cond (eqb (f t) t) t 0)) 0
 
--- The least time for own work beside the interference f, with `taken` the utilisation above: where the set above takes the whole
--- processor there is none; else none is below own / (1 - taken), and the iteration starts there. Without own work it starts at 1.
-unfoldable pub timeFor : (ℕ → ℕ) → ℕ → ℕ → ℕ → ℕ
-timeFor f taken own deadline =
-    cond (eqb own 0) (climb (λ t. own + f t) deadline (suc deadline) 1)
-    (cond (leb whole taken) 0 (climb (λ t. own + f t) deadline (suc deadline) (own * whole / (whole - taken))))
+-- The least time up to d for own demand beside the interference f, with `taken` the utilisation above: where the set above takes the
+-- whole processor there is none; else none is below own / (1 - taken), and the iteration starts there, or at `before` if that is later.
+-- Without own demand it starts at 1 or at `before`.
+unfoldable pub timeFor : (ℕ → ℕ) → ℕ → ℕ → ℕ → ℕ → ℕ
+timeFor f taken own d before =
+    cond (eqb own 0) (climb (λ t. own + f t) d (suc d) (max 1 before))
+    (cond (leb whole taken) 0 (climb (λ t. own + f t) d (suc d) (max (own * whole / (whole - taken)) before)))
+
+-- The own demand of so much own work, with the layer's share for it.
+unfoldable pub ownDemand : ℕ → ℕ → ℕ → ℕ
+ownDemand quantum others own = own + ceilDiv own quantum * others
+
+-- The finish of instance j of a job with these times as it is found, from a time `before` on.
+unfoldable pub finishBy : (ℕ → ℕ) → ℕ → ℕ → ℕ → ℕ → ℕ → ℕ → ℕ → ℕ → ℕ
+finishBy f taken quantum others cost period deadline j before =
+    timeFor f taken (ownDemand quantum others (suc j * cost)) (j * period + deadline) before
+
+-- The largest response as it is found: each finish is sought from the finish of the instance before.
+unfoldable pub runBy : (ℕ → ℕ → ℕ) → ℕ → ℕ → ℕ → ℕ → ℕ → ℕ
+runBy finishes period zero j before largest = 0
+runBy finishes period (suc n) j before largest =
+    cond (eqb (finishes j before) 0) 0
+    (cond (leb (finishes j before) (suc j * period)) (max largest (finishes j before - j * period))
+    (runBy finishes period n (suc j) (finishes j before) (max largest (finishes j before - j * period))))
+
+-- The largest response of a job beside the interference f.
+abbrev pub largestBy : (ℕ → ℕ) → ℕ → ℕ → ℕ → Job → ℕ
+largestBy f taken quantum others job =
+    runBy (finishBy f taken quantum others (job .cost) (job .period) (job .deadline)) (job .period) mostInstances 0 0 0
 
 -- The bound as it is found.
 unfoldable pub boundBy : Workload → List ℕ → Set → Set → ℕ → ℕ
 boundBy workload quanta layer above k =
-    let job = jobAt (workload .jobs) k in
-    timeFor (interference (workload .jobs) above) (load (workload .shares) above)
-    (job .cost + layerShare (length (workload .jobs)) quanta layer k (job .cost)) (job .deadline)
+    largestBy (interference (workload .jobs) above) (load (workload .shares) above)
+    (getD quanta k 0) (otherQuanta (length (workload .jobs)) quanta layer k) (jobAt (workload .jobs) k)

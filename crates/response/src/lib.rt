@@ -8,7 +8,8 @@ use workload::Workload;
 mod demand;
 pub mod workload;
 
-// The bound of the job at a place of a table: the least time from 1 to its deadline that equals its demand, or 0.
+// The bound of the job at a place of a table: the largest response of its instances up to the first that finishes by the next release, or
+// 0.
 // The sets' members are places of the table; `quanta` has the layer's quanta at their places.
 pub fn bound(
     jobs: [Job; Job::MOST],

@@ -1,0 +1,113 @@
+-- The run of a job's instances: it goes by the finishes alone, finishes that are no later keep it closing, and how it is found.
+-- Assumes nothing.
+use mathlib.Core.Path.{_≡_, refl, sym, _∙_, ap, ap₂}
+use mathlib.Core.Logic.{_≢_}
+use Prim.Native.Nat.{ℕ, zero, suc, _+_, _*_, _-_, _≤_, _<_, max}
+use native.Mathlib.Decide.{decLe, ℕ-discrete}
+use native.Mathlib.Omega.{arith}
+use borrow.Author.Tests.{eq-eqb, ne-eqb, le-leb, lt-leb, lt-ltb, le-ltb}
+use Rattle.response.specs.Demand.{Reached, none, larger, responseOf, run}
+use Rattle.response.specs.Search.{runBy}
+
+pub larger-max : (a b : Reached) → larger a b .response ≡ max (a .response) (b .response)
+unfolding larger
+larger-max a b = elim (decLe (b .response) (a .response)) [
+  | yes h ↦ rw (le-ltb (a .response) (b .response) h, larger) (omega arith)
+  | no h ↦ rw (lt-ltb (a .response) (b .response) (omega arith), larger) (omega arith)
+]
+
+-- ---- one instance
+
+module _ (f : ℕ → ℕ) (period : ℕ) where
+  pub run-none : (n j : ℕ) (before : Reached) → f j ≡ 0 → run f period (suc n) j before ≡ none
+  unfolding run
+  run-none n j before e = rw (eq-eqb (f j) 0 e, run)
+
+  pub run-closed : (n j : ℕ) (before : Reached) → f j ≢ 0 → f j ≤ suc j * period
+      → run f period (suc n) j before ≡ larger before (responseOf period j (f j))
+  unfolding run
+  run-closed n j before e h = rw (ne-eqb (f j) 0 e, le-leb (f j) (suc j * period) h, run)
+
+  pub run-open : (n j : ℕ) (before : Reached) → f j ≢ 0 → suc j * period < f j
+      → run f period (suc n) j before ≡ run f period n (suc j) (larger before (responseOf period j (f j)))
+  unfolding run
+  run-open n j before e h = rw (ne-eqb (f j) 0 e, lt-leb (f j) (suc j * period) h, run)
+
+-- Finishes that are no later: a run that closes still closes.
+pub run-sooner : (f g : ℕ → ℕ) (period : ℕ) → ((j : ℕ) → 0 < f j → (0 < g j) × (g j ≤ f j)) → (n j : ℕ) (a b : Reached)
+    → (0 < g j → 0 < b .response + (g j - j * period)) → 0 < run f period n j a .response → 0 < run g period n j b .response
+unfolding run
+run-sooner f g period h zero j a b p r = absurd (omega arith)
+run-sooner f g period h (suc n) j a b p r = elim (ℕ-discrete (f j) 0) [
+  | yes z ↦ let e : 0 < none .response = rw (run-none f period n j a z) at r in absurd (omega arith)
+  | no z ↦
+      let w = h j (omega arith) in
+      let more : 0 < larger b (responseOf period j (g j)) .response = rw (larger-max b (responseOf period j (g j))) (omega (arith, p (w .0))) in
+      elim (decLe (g j) (suc j * period)) [
+        | yes c ↦ rw (run-closed g period n j b (λ e. omega (arith, w .0)) c) more
+        | no c ↦
+            rw (run-open g period n j b (λ e. omega (arith, w .0)) (omega arith))
+            (run-sooner f g period h n (suc j) _ _ (λ x. omega arith) (rw (run-open f period n j a z (omega (arith, w .1))) at r))
+      ]
+]
+
+-- ---- as it is found
+
+module _ (found : ℕ → ℕ → ℕ) (period : ℕ) where
+  by-none : (n j before largest : ℕ) → found j before ≡ 0 → runBy found period (suc n) j before largest ≡ 0
+  unfolding runBy
+  by-none n j before largest e = rw (eq-eqb (found j before) 0 e)
+
+  by-closed : (n j before largest : ℕ) → found j before ≢ 0 → found j before ≤ suc j * period
+      → runBy found period (suc n) j before largest ≡ max largest (found j before - j * period)
+  unfolding runBy
+  by-closed n j before largest e h = rw (ne-eqb (found j before) 0 e, le-leb (found j before) (suc j * period) h)
+
+  by-open : (n j before largest : ℕ) → found j before ≢ 0 → suc j * period < found j before
+      → runBy found period (suc n) j before largest ≡ runBy found period n (suc j) (found j before) (max largest (found j before - j * period))
+  unfolding runBy
+  by-open n j before largest e h = rw (ne-eqb (found j before) 0 e, lt-leb (found j before) (suc j * period) h)
+
+  -- What is found is the response of the run, if each search from a time that is good for its instance finds its finish.
+  module _ (f : ℕ → ℕ) (Good : ℕ → ℕ → Type 0) (same : (j b : ℕ) → Good j b → found j b ≡ f j) (next : (j : ℕ) → 0 < f j → Good (suc j) (f j)) where
+    pub run-found : (n j b : ℕ) (before : Reached) → Good j b → runBy found period n j b (before .response) ≡ run f period n j before .response
+    unfolding run runBy
+    run-found zero j b before good = refl
+    run-found (suc n) j b before good =
+        let e : found j b ≡ f j = same j b good in
+        let most : max (before .response) (found j b - j * period) ≡ larger before (responseOf period j (f j)) .response =
+        ap (λ (x : ℕ). max (before .response) (x - j * period)) e ∙ sym (larger-max before (responseOf period j (f j))) in
+        elim (ℕ-discrete (f j) 0) [
+          | yes z ↦ by-none n j b (before .response) (e ∙ z) ∙ sym (ap (λ (r : Reached). r .response) (run-none f period n j before z))
+          | no z ↦ elim (decLe (f j) (suc j * period)) [
+            | yes c ↦
+                by-closed n j b (before .response) (λ q. z (sym e ∙ q)) (omega arith) ∙ most
+                ∙ sym (ap (λ (r : Reached). r .response) (run-closed f period n j before z c))
+            | no c ↦
+                by-open n j b (before .response) (λ q. z (sym e ∙ q)) (omega arith)
+                ∙ ap₂ (runBy found period n (suc j)) e most
+                ∙ run-found n (suc j) (f j) (larger before (responseOf period j (f j))) (next j (omega arith))
+                ∙ sym (ap (λ (r : Reached). r .response) (run-open f period n j before z (omega arith)))
+          ]
+        ]
+
+  -- ---- the loop of the code, over n instances
+
+  module _ (n j before largest : ℕ) (h : j < n) where
+    left : n - j ≡ suc (n - suc j)
+    left = omega arith
+
+    pub turn-none : found j before ≡ 0 → runBy found period (n - j) j before largest ≡ 0
+    turn-none e = rw left (by-none (n - suc j) j before largest e)
+
+    pub turn-closed : found j before ≢ 0 → found j before ≤ suc j * period
+        → runBy found period (n - j) j before largest ≡ max largest (found j before - j * period)
+    turn-closed e c = rw left (by-closed (n - suc j) j before largest e c)
+
+    pub turn-open : found j before ≢ 0 → suc j * period < found j before
+        → runBy found period (n - j) j before largest ≡ runBy found period (n - suc j) (suc j) (found j before) (max largest (found j before - j * period))
+    turn-open e c = rw left (by-open (n - suc j) j before largest e c)
+
+  pub turn-out : (j before largest : ℕ) → runBy found period 0 j before largest ≡ 0
+  unfolding runBy
+  turn-out j before largest = refl

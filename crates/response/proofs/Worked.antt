@@ -1,0 +1,59 @@
+-- Worked runs of a job's instances, each with the first instance that reaches the bound: one table, one computed statement.
+-- Assumes nothing.
+use Prim.Native.Nat.{ℕ}
+use mathlib.Core.Path.{_≡_, refl}
+use mathlib.Core.List.{List, [], _∷_, map}
+use Rattle.sets.specs.Places.{sum, sumOver}
+use Rattle.sets.specs.Sets.{has}
+use Rattle.records.specs.declared.job.Job.{Job}
+use Rattle.response.specs.Demand.{ceilDiv, work, interference, otherQuanta, layerShare, demand, least, finish, Reached, none, larger, run, largestResponse}
+
+pub job : ℕ → ℕ → ℕ → Job
+job cost period deadline = record { id = 1; cost = cost; period = period; deadline = deadline }
+
+-- The jobs, their quanta, the numbers of the layer and of the set above, and what the job at place 1 is to have.
+pub record Case : Type 0 where
+  pub jobs : List Job
+  pub quanta : List ℕ
+  pub layer : ℕ
+  pub above : ℕ
+  pub answer : Reached
+
+pub answered : Case → Reached
+answered c = largestResponse (c .jobs) (c .quanta) (has (c .layer)) (has (c .above)) 1
+
+-- The second job alone with the first above, and both in one layer.
+pub under : Job → Job → Reached → Case
+under first second r = record { jobs = first ∷ second ∷ []; quanta = []; layer = 2; above = 1; answer = r }
+
+pub beside : Job → Job → ℕ → ℕ → Reached → Case
+beside first second p q r = record { jobs = first ∷ second ∷ []; quanta = p ∷ q ∷ []; layer = 3; above = 0; answer = r }
+
+pub reaches : ℕ → ℕ → Reached
+reaches response instance = record { response = response; instance = instance }
+
+pub cases : List Case
+cases =
+    -- instance 0 closes: at its next release, and before it
+    under (job 1 2 2) (job 1 2 9) (reaches 2 0)
+    ∷ under (job 1 2 2) (job 1 3 9) (reaches 2 0)
+    -- responses 114, 102, 116, 104, 118, 106, 94: the largest is not the last, and the deadline may be just that
+    ∷ under (job 26 70 70) (job 62 100 118) (reaches 118 4)
+    -- a response that exceeds the deadline in the middle
+    ∷ under (job 26 70 70) (job 62 100 117) none
+    -- responses 5, 6, 4: the run closes at 12, exactly the next release
+    ∷ under (job 3 6 6) (job 2 4 6) (reaches 6 1)
+    -- responses 65, 64, 63 and so on: instance 63 closes at 128; in the second case it finishes at 129
+    ∷ under (job 64 128 128) (job 1 2 65) (reaches 65 0)
+    ∷ under (job 65 130 130) (job 1 2 66) none
+    -- the set above takes the whole processor: no finish
+    ∷ under (job 1 1 1) (job 1 2 60) none
+    -- the cycles are those of the whole own work: 2 of 3 ticks, 3 of 6 ticks; responses 7 and 6
+    ∷ beside (job 1 9 9) (job 3 6 7) 2 2 (reaches 7 0)
+    -- responses 7, 9, 9, 5: the first instance that reaches the bound
+    ∷ record { jobs = job 4 7 7 ∷ job 1 5 9 ∷ job 2 10 10 ∷ []; quanta = []; layer = 2; above = 5; answer = reaches 9 1 }
+    ∷ []
+
+pub worked : map answered cases ≡ map (λ c. c .answer) cases
+unfolding job answered under beside reaches cases sum sumOver has ceilDiv work interference otherQuanta layerShare demand least finish larger run largestResponse
+worked = refl
