@@ -1,14 +1,18 @@
 -- The tests of jobs see a table as they see the list that it begins with, and what they say of each job. Assumes nothing.
-use Prim.Native.Nat.{ℕ, zero, suc, _-_, _<_}
+use Prim.Native.Nat.{ℕ, zero, suc, _-_, _≤_, _<_}
+use mathlib.Core.Bool.{true, _&&_, and-true, and-false}
 use mathlib.Core.Path.{_≡_, refl, ap, ap₂}
 use mathlib.Core.List.{List}
+use native.Mathlib.Decide.{decLe}
 use native.Mathlib.Omega.{arith}
+use lib.Dec.{leb}
 use lib.ListN.{length, take}
 use lib.Seq.{getD-take}
 use Rattle.sets.specs.Places.{every}
 use Rattle.sets.proofs.Places.{every-same}
-use Rattle.records.specs.Limits.{mostJobs}
-use Rattle.records.specs.Jobs.{blankJob, jobAt, jobOk, idBefore, jobOkAt, jobTests, jobTable}
+use borrow.Author.Tests.{le-leb, lt-leb}
+use Rattle.records.specs.Limits.{mostJobs, longestPeriod, longestDeadline}
+use Rattle.records.specs.Jobs.{blankJob, jobAt, timesOk, jobOk, idBefore, jobOkAt, jobTests, jobTable}
 use Rattle.records.specs.declared.job.Job.{Job}
 use Rattle.records.specs.declared.judge.JobRule.{JobRule}
 use Rattle.records.specs.declared.judge.JobRule.the-variants.{Id, Order, Times}
@@ -30,3 +34,19 @@ tests-table n jobs = tests-same n (jobTable jobs) jobs (λ i l. table-at blankJo
 
 pub tests-take : (n : ℕ) (jobs : List Job) → jobTests n (take n jobs) ≡ jobTests n jobs
 tests-take n jobs = tests-same n (take n jobs) jobs (λ i l. getD-take n jobs i blankJob l)
+
+-- ---- refusal 5
+
+-- Of a deadline up to the period it lets by what 01 alone lets by: 1 ≤ C ≤ D ≤ T ≤ 60,000.
+pub times-within : (cost period deadline : ℕ) → deadline ≤ period
+    → timesOk cost period deadline ≡ (leb 1 cost && leb cost deadline && leb deadline period && leb period longestPeriod)
+unfolding timesOk
+times-within cost period deadline h = elim (decLe cost deadline) [
+  | no c ↦ simp (lt-leb cost deadline (omega arith), and-false)
+  | yes c ↦
+      let within : leb cost period ≡ true = le-leb cost period (omega arith) in
+      elim (decLe period longestPeriod) [
+        | no t ↦ simp (lt-leb period longestPeriod (omega arith), and-false)
+        | yes t ↦ simp (le-leb deadline period h, within, le-leb period longestPeriod t, le-leb deadline longestDeadline (omega arith), and-true)
+      ]
+]

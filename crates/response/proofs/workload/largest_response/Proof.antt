@@ -50,7 +50,7 @@ release : (c : tie.In-loop Inv-loop μ-loop) → c .before .loop .instance * c .
 release c =
     let a = c .before .before .before .before .before .args in
     let h : Fits w16 (a .job .period) = search needs in
-    release-fits (c .before .loop .instance) (a .job .period) (c .loop-test .taken) (omega arith)
+    release-fits (c .before .loop .instance) (a .job .period) (omega (arith, c .loop-test .taken)) (omega arith)
 
 mul-release : tie.Need-mul-release Inv-loop μ-loop
 mul-release c =
@@ -102,7 +102,7 @@ returns : tie.Need-returns Inv-loop μ-loop
 returns c =
     let p = c .before in
     let l = p .before .before .before .loop in
-    sym (l .inv .3 ∙ turn-none (finishes p) (job p .period) mostInstances (l .instance) (l .before) (l .largest) (p .before .before .loop-test .taken) (sym (finish p) ∙ c .if1 .taken))
+    sym (l .inv .3 ∙ turn-none (finishes p) (job p .period) mostInstances (l .instance) (l .before) (l .largest) (omega (arith, p .before .before .loop-test .taken)) (sym (finish p) ∙ c .if1 .taken))
 
 sub-response : tie.Need-sub-response Inv-loop μ-loop
 sub-response c =
@@ -140,7 +140,7 @@ returns-2 c =
     let p = g .before .before in
     let l = p .before .before .before .loop in
     sym (l .inv .3
-    ∙ turn-closed (finishes p) (job p .period) mostInstances (l .instance) (l .before) (l .largest) (p .before .before .loop-test .taken)
+    ∙ turn-closed (finishes p) (job p .period) mostInstances (l .instance) (l .before) (l .largest) (omega (arith, p .before .before .loop-test .taken))
     (λ e. g .before .if1 .left (finish p ∙ e)) (omega (arith, finish p, c .before .if3 .taken))
     ∙ ap (λ (x : ℕ). max (l .largest) (x - l .instance * job p .period)) (sym (finish p)) ∙ sym (grown g .0))
 
@@ -161,7 +161,7 @@ loop-again c =
       grown g .1,
       omega (arith, c .if3 .left),
       l .inv .3
-          ∙ turn-open (finishes p) T mostInstances (l .instance) (l .before) (l .largest) (p .before .before .loop-test .taken) (λ e. g .before .if1 .left (finish p ∙ e)) open-ended
+          ∙ turn-open (finishes p) T mostInstances (l .instance) (l .before) (l .largest) (omega (arith, p .before .before .loop-test .taken)) (λ e. g .before .if1 .left (finish p ∙ e)) open-ended
           ∙ ap (λ (n : ℕ). runBy (finishes p) T (mostInstances - n) n (finishes p (l .instance) (l .before)) (max (l .largest) (finishes p (l .instance) (l .before) - l .instance * T))) (sym (one-more p))
           ∙ ap₂ (runBy (finishes p) T (mostInstances - (l .instance + 1)) (l .instance + 1)) (sym (finish p))
           (ap (λ (x : ℕ). max (l .largest) (x - l .instance * T)) (sym (finish p)) ∙ sym (grown g .0)),
