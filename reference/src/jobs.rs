@@ -8,6 +8,9 @@ pub const MOST_JOBS: usize = 8;
 /// "60,000 ticks is the longest period".
 pub const LONGEST_PERIOD: u16 = 60_000;
 
+/// D may exceed T, "up to 60,000".
+pub const LONGEST_DEADLINE: u16 = 60_000;
+
 /// "Job, 8 bytes".
 pub const JOB_BYTES: usize = 8;
 
@@ -101,13 +104,15 @@ pub fn judge_order(jobs: &[Job]) -> Result<(), Refusal> {
     Ok(())
 }
 
-/// Refusal 5: "A C is 0, a C is above its D, a D is above its T, or a T is above 60,000."
+/// Refusal 5: "A C is 0, a C is above its D", "or a T is above 60,000", and by E1 "D above 60,000
+/// and C above T".
 pub fn judge_times(jobs: &[Job]) -> Result<(), Refusal> {
     for job in jobs {
         if job.cost == 0
             || job.cost > job.deadline
-            || job.deadline > job.period
+            || job.cost > job.period
             || job.period > LONGEST_PERIOD
+            || job.deadline > LONGEST_DEADLINE
         {
             return Err(Refusal::JobTimes);
         }

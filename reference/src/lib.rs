@@ -1,5 +1,5 @@
-//! The entries of the scope document as plain functions, written by direct reading and exhaustive
-//! search, and the generation of cases with their expected answers.
+//! The entries of the scope document with its change request E1 as plain functions, written by
+//! direct reading and exhaustive search, and the generation of cases with their expected answers.
 
 pub mod configuration;
 pub mod desk;

@@ -4,7 +4,7 @@ use crate::configuration::{
     judge_range, not_placed, put_settings, QuantumRange, Setting, FIFO, ROUND_ROBIN, SETTING_BYTES,
 };
 use crate::jobs::{jobs_of_block, Job, MOST_JOBS};
-use crate::quanta::{interference_by_time, Layer, TooManyLists};
+use crate::quanta::{Layer, TooManyLists};
 use crate::refusal::{judge_output, Refusal};
 use crate::response_time::{bound, put_bounds, BOUND_BYTES};
 
@@ -57,25 +57,19 @@ pub fn place(settings: &mut [Setting], members: &[usize], level: u8, quanta: &[u
     }
 }
 
-/// The search's unchanging part: the list, the range and each job's interference by time.
+/// The search's unchanging part: the list and the range.
 struct Search<'a> {
     jobs: &'a [Job],
     range: QuantumRange,
-    interference: Vec<Vec<u32>>,
 }
 
 impl Search<'_> {
-    fn new(jobs: &[Job], range: QuantumRange) -> Search<'_> {
-        let longest = jobs.iter().map(|job| job.deadline).max().unwrap_or(0);
-        let interference = jobs
+    /// The jobs of a set.
+    fn jobs_of_set(&self, set: u8) -> Vec<Job> {
+        members_of_set(set)
             .iter()
-            .map(|job| interference_by_time(job, longest))
-            .collect();
-        Search {
-            jobs,
-            range,
-            interference,
-        }
+            .map(|index| self.jobs[*index])
+            .collect()
     }
 
     /// "A set of jobs of R can be taken if it is not empty and some quanta in range give each of
@@ -87,16 +81,8 @@ impl Search<'_> {
         set: u8,
         lists_left: &mut u64,
     ) -> Result<Option<Vec<u8>>, TooManyLists> {
-        let members = members_of_set(set);
-        let above: Vec<&[u32]> = members_of_set(rest & !set)
-            .iter()
-            .map(|index| self.interference[*index].as_slice())
-            .collect();
-        let layer = Layer::new(
-            members.iter().map(|index| self.jobs[*index]).collect(),
-            &above,
-        );
-        if members.len() == 1 {
+        let mut layer = Layer::new(self.jobs_of_set(set), self.jobs_of_set(rest & !set));
+        if set.count_ones() == 1 {
             return Ok(layer.serves_single().then(|| vec![0]));
         }
         layer.smallest_quanta(self.range, lists_left)
@@ -128,7 +114,7 @@ pub fn plan_jobs_within(
     range: QuantumRange,
     most_lists: u64,
 ) -> Result<Plan, TooManyLists> {
-    let search = Search::new(jobs, range);
+    let search = Search { jobs, range };
     let mut plan = Plan {
         settings: jobs.iter().map(not_placed).collect(),
         bounds: vec![0; jobs.len()],

@@ -3,78 +3,105 @@
 
 use crate::configuration::QuantumRange;
 use crate::jobs::Job;
-use crate::response_time::{interference, round_robin_demand};
+use crate::response_time::{round_robin_demand, run_of_job, total_interference};
 
 /// A search gave up because it would have tried more lists than its caller allows.
 #[derive(Clone, Copy, Debug, PartialEq, Eq)]
 pub struct TooManyLists;
 
-/// What one job adds to the demand on a job below it, by the time from 0 to a longest one.
-pub fn interference_by_time(above: &Job, longest: u16) -> Vec<u32> {
-    (0..=u32::from(longest))
-        .map(|time| interference(above, time))
-        .collect()
+/// The least times that equal a layer's demand plus the interference of the jobs above, for all
+/// layer demands at once. Every time is tried once, from 1 on, as far as it is asked for.
+struct LeastTimes {
+    above: Vec<Job>,
+    /// By layer demand, the least of the times tried that fit it; 0 if none of them does. As many
+    /// times as it has entries are tried, 0 among them.
+    by_demand: Vec<u64>,
+}
+
+impl LeastTimes {
+    /// No time is tried but 0, which fits no demand.
+    fn new(above: Vec<Job>) -> LeastTimes {
+        LeastTimes {
+            above,
+            by_demand: vec![0],
+        }
+    }
+
+    /// Tries the next time. It fits the one layer demand that is left of it without the
+    /// interference. The times rise, so the first one noted for a demand is the least.
+    fn try_next(&mut self) {
+        let time = self.by_demand.len() as u64;
+        self.by_demand.push(0);
+        let interference = total_interference(&self.above, time);
+        if interference < time {
+            let least = &mut self.by_demand[(time - interference) as usize];
+            if *least == 0 {
+                *least = time;
+            }
+        }
+    }
+
+    /// "its finish is the least t that equals its demand", if there is one up to the latest time.
+    /// A time below the layer's demand does not equal it.
+    fn finish(&mut self, layer_demand: u64, latest: u64) -> Option<u64> {
+        if layer_demand > latest {
+            return None;
+        }
+        let demand = layer_demand as usize;
+        loop {
+            let least = self.by_demand.get(demand).copied().unwrap_or(0);
+            if least != 0 {
+                return (least <= latest).then_some(least);
+            }
+            if self.by_demand.len() as u64 > latest {
+                return None;
+            }
+            self.try_next();
+        }
+    }
 }
 
 /// A set of jobs of R tried as one layer, "with the rest of R above and all other jobs below".
 pub struct Layer {
     members: Vec<Job>,
-    /// By layer demand, the least time from 1 that equals that demand plus the interference of the
-    /// jobs above; 0 if there is none up to the longest deadline of the members.
-    least_times: Vec<u16>,
+    least_times: LeastTimes,
 }
 
 impl Layer {
-    /// The layer of its members and of the interference by time of each job above.
-    pub fn new(members: Vec<Job>, above: &[&[u32]]) -> Layer {
-        let longest = members.iter().map(|job| job.deadline).max().unwrap_or(0);
-        let mut from_above = vec![0; usize::from(longest) + 1];
-        for interference in above {
-            for (sum, one) in from_above.iter_mut().zip(*interference) {
-                *sum = u32::saturating_add(*sum, *one);
-            }
-        }
-        let mut least_times = vec![0; usize::from(longest) + 1];
-        // A time fits the one layer demand that is left of it. The times fall, so the least of the
-        // times that fit one layer demand is the last one noted.
-        for time in (1..=longest).rev() {
-            let interference = from_above[usize::from(time)];
-            if interference < u32::from(time) {
-                least_times[usize::from(time) - interference as usize] = time;
-            }
-        }
+    /// The layer of its members and of the jobs above.
+    pub fn new(members: Vec<Job>, above: Vec<Job>) -> Layer {
         Layer {
             members,
-            least_times,
+            least_times: LeastTimes::new(above),
         }
     }
 
-    /// Whether a member with this layer demand has "a bound that is not 0".
-    fn has_bound(&self, member: usize, layer_demand: u32) -> bool {
-        let longest = self.least_times.len() as u32 - 1;
-        if layer_demand > longest {
-            return false;
-        }
-        let time = self.least_times[layer_demand as usize];
-        time != 0 && time <= self.members[member].deadline
+    /// Whether a member has "a bound that is not 0", its layer having this demand on own work.
+    fn has_bound(&mut self, member: usize, layer_demand: impl Fn(u64) -> u64) -> bool {
+        let least_times = &mut self.least_times;
+        let run = run_of_job(&self.members[member], layer_demand, |demand, _, latest| {
+            least_times.finish(demand, latest)
+        });
+        run.bound() != 0
     }
 
     /// Whether the set's only job is served: "A set of one takes policy 1 and quantum 0."
-    pub fn serves_single(&self) -> bool {
-        self.has_bound(0, u32::from(self.members[0].cost))
+    pub fn serves_single(&mut self) -> bool {
+        self.has_bound(0, |own_work| own_work)
     }
 
     /// Whether a member is served with its own quantum and the sum of the other quanta.
-    fn serves_member(&self, member: usize, quantum: u8, other_quanta: u32) -> bool {
-        let cost = self.members[member].cost;
-        self.has_bound(member, round_robin_demand(cost, quantum, other_quanta))
+    fn serves_member(&mut self, member: usize, quantum: u8, other_quanta: u64) -> bool {
+        self.has_bound(member, |own_work| {
+            round_robin_demand(own_work, quantum, other_quanta)
+        })
     }
 
     /// Whether a list of quanta gives "each of its jobs a bound that is not 0".
-    fn serves(&self, quanta: &[u8]) -> bool {
-        let total: u32 = quanta.iter().map(|quantum| u32::from(*quantum)).sum();
+    fn serves(&mut self, quanta: &[u8]) -> bool {
+        let total: u64 = quanta.iter().map(|quantum| u64::from(*quantum)).sum();
         for (member, quantum) in quanta.iter().enumerate() {
-            if !self.serves_member(member, *quantum, total - u32::from(*quantum)) {
+            if !self.serves_member(member, *quantum, total - u64::from(*quantum)) {
                 return false;
             }
         }
@@ -82,19 +109,19 @@ impl Layer {
     }
 
     /// Whether some member is not served even with the highest quantum for itself and the lowest
-    /// for the others. Then no list serves: a larger own quantum never raises a job's demand, a
-    /// larger quantum of another never lowers it, and a job that is served stays served when its
-    /// demand falls.
-    fn is_hopeless(&self, range: QuantumRange) -> bool {
+    /// for the others. Then no list serves: a larger own quantum never raises the demand on an
+    /// instance, a larger quantum of another never lowers it, and a job that is served stays served
+    /// when the demands on its instances fall, as no instance then finishes later.
+    fn is_hopeless(&mut self, range: QuantumRange) -> bool {
         let count = self.members.len();
-        let other_quanta = (count as u32 - 1) * u32::from(range.lowest);
+        let other_quanta = (count as u64 - 1) * u64::from(range.lowest);
         (0..count).any(|member| !self.serves_member(member, range.highest, other_quanta))
     }
 
     /// "it is the smallest of those lists, compared at the first job where two differ": every list
     /// is tried, in that order, until one serves. Each list tried is taken off `lists_left`.
     pub fn smallest_quanta(
-        &self,
+        &mut self,
         range: QuantumRange,
         lists_left: &mut u64,
     ) -> Result<Option<Vec<u8>>, TooManyLists> {

@@ -13,7 +13,8 @@ pub enum Refusal {
     JobOrder = 3,
     /// "The place to edit is not below the number of jobs (the first place is 0)."
     EditPlace = 4,
-    /// "A C is 0, a C is above its D, a D is above its T, or a T is above 60,000."
+    /// "A C is 0, a C is above its D", "or a T is above 60,000", and by E1 "D above 60,000 and C
+    /// above T".
     JobTimes = 5,
     /// "The lowest quantum is 0 or above the highest, or the highest is above 64."
     QuantumRange = 6,

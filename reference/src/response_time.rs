@@ -1,7 +1,9 @@
-//! The response-time test: the demand on a job, its bound, and the entry that writes bounds.
+//! The response-time test: the demand on a job's instances, their finishes and responses, the job's
+//! bound, and the entry that writes bounds.
 //!
-//! Demands are four-byte numbers. A layer's demand is at most 60,000 + 60,000 * 7 * 64, and a job
-//! above adds at most t + T, which is at most 120,000, as its C is at most its T.
+//! Times and demands are eight-byte numbers. A time is at most 64 * 60,000 and so is an instance's
+//! own work. A layer's demand is at most that work times 1 + 7 * 64, and a job above adds at most
+//! t + T, as its C is at most its T.
 
 use crate::configuration::{jobs_and_settings, Setting, FIFO, NOT_PLACED};
 use crate::jobs::Job;
@@ -10,32 +12,85 @@ use crate::refusal::{judge_output, Refusal};
 /// "Bound, 2 bytes".
 pub const BOUND_BYTES: usize = 2;
 
+/// "instance 63 is reached": the instances are those from 0 to 63.
+pub const INSTANCES: u64 = 64;
+
+/// How the run of a job's instances ends.
+#[derive(Clone, Copy, Debug, PartialEq, Eq)]
+pub enum End {
+    /// The last instance is "the first instance that finishes by (j+1)·T".
+    Closed,
+    /// Of the last instance, "a response exceeds D" or "a finish doesn't exist".
+    OverDeadline,
+    /// "instance 63 is reached and still runs past 64·T".
+    StillRunning,
+}
+
+/// A job's instances from 0 on, up to the one at which the bound is settled.
+#[derive(Clone, Copy, Debug, PartialEq, Eq)]
+pub struct Run {
+    pub end: End,
+    pub last_instance: u64,
+    /// The latest finish found, 0 if instance 0 has none.
+    pub finish: u64,
+    /// The largest response found, and the first instance that has it.
+    pub largest_response: u64,
+    pub largest_instance: u64,
+}
+
+impl Run {
+    /// "The bound is the largest response up to the first instance that finishes by (j+1)·T. If a
+    /// response exceeds D, a finish doesn't exist, or instance 63 is reached and still runs past
+    /// 64·T, the bound is 0." No response of a closed run exceeds D, so it fits in two bytes.
+    pub fn bound(&self) -> u16 {
+        match self.end {
+            End::Closed => self.largest_response as u16,
+            End::OverDeadline | End::StillRunning => 0,
+        }
+    }
+
+    /// Notes the finish and the response of the last instance.
+    fn note(&mut self, finish: u64, response: u64) {
+        self.finish = finish;
+        if response > self.largest_response {
+            self.largest_response = response;
+            self.largest_instance = self.last_instance;
+        }
+    }
+}
+
 /// "its own C; the cycles, C divided by its quantum and rounded up, times the sum of the other
-/// quanta in its layer": the demand of a policy 2 job's layer, which is the same at every time.
-pub fn round_robin_demand(cost: u16, quantum: u8, other_quanta: u32) -> u32 {
-    let cycles = u32::from(cost).div_ceil(u32::from(quantum));
-    u32::from(cost) + cycles * other_quanta
+/// quanta in its layer", an instance having "own work (j+1)·C" in place of C, and "its cycles are
+/// taken of that work": the demand of a policy 2 job's layer, which is the same at every time.
+pub fn round_robin_demand(own_work: u64, quantum: u8, other_quanta: u64) -> u64 {
+    let cycles = own_work.div_ceil(u64::from(quantum));
+    own_work + cycles * other_quanta
 }
 
 /// "t divided by that job's T, rounded up, times that job's C".
-pub fn interference(above: &Job, time: u32) -> u32 {
-    time.div_ceil(u32::from(above.period)) * u32::from(above.cost)
+pub fn interference(above: &Job, time: u64) -> u64 {
+    time.div_ceil(u64::from(above.period)) * u64::from(above.cost)
 }
 
-/// The demand of the job's own layer: its C, and for policy 2 the cycles of the layer's others.
-pub fn layer_demand(jobs: &[Job], settings: &[Setting], index: usize) -> u32 {
+/// The interference of all jobs above.
+pub fn total_interference(above: &[Job], time: u64) -> u64 {
+    above.iter().map(|job| interference(job, time)).sum()
+}
+
+/// The demand of the job's own layer on own work: the work, and for policy 2 the cycles of the
+/// layer's others.
+pub fn layer_demand(settings: &[Setting], index: usize, own_work: u64) -> u64 {
     let own = &settings[index];
-    let cost = jobs[index].cost;
     if own.policy == FIFO {
-        return u32::from(cost);
+        return own_work;
     }
     let mut other_quanta = 0;
     for (other_index, other) in settings.iter().enumerate() {
         if other_index != index && other.level == own.level {
-            other_quanta += u32::from(other.quantum);
+            other_quanta += u64::from(other.quantum);
         }
     }
-    round_robin_demand(cost, own.quantum, other_quanta)
+    round_robin_demand(own_work, own.quantum, other_quanta)
 }
 
 /// The jobs above a placed job. "A job not placed counts as above every placed one": its level is
@@ -50,22 +105,69 @@ pub fn jobs_above(jobs: &[Job], settings: &[Setting], index: usize) -> Vec<Job> 
     above
 }
 
-/// "The bound is the least t from 1 to D whose demand equals t. If there is none, the bound is 0."
-/// A job not placed has bound 0.
+/// The run of a job's instances. `layer_demand` answers the demand of the job's layer on own work.
+/// `finish_between` answers, for such a demand, the least t from an earliest to a latest one that
+/// equals it plus the interference.
+///
+/// The search for a finish stops at j·T + D, since a later finish makes the response exceed D, and
+/// the bound is 0 then as it is if "a finish doesn't exist".
+///
+/// The search starts at the finish of the instance before. Demand less t is not below 0 at t = 1
+/// and falls by at most 1 from one t to the next, so before the least t that equals the demand it
+/// is above 0. The demand of the later instance is larger at every t, so that no t up to the finish
+/// of the instance before equals it.
+pub fn run_of_job(
+    job: &Job,
+    layer_demand: impl Fn(u64) -> u64,
+    mut finish_between: impl FnMut(u64, u64, u64) -> Option<u64>,
+) -> Run {
+    let (period, deadline) = (u64::from(job.period), u64::from(job.deadline));
+    let mut run = Run {
+        end: End::StillRunning,
+        last_instance: 0,
+        finish: 0,
+        largest_response: 0,
+        largest_instance: 0,
+    };
+    for instance in 0..INSTANCES {
+        run.last_instance = instance;
+        let release = instance * period;
+        let demand = layer_demand((instance + 1) * u64::from(job.cost));
+        let earliest = run.finish.max(1);
+        let Some(finish) = finish_between(demand, earliest, release + deadline) else {
+            run.end = End::OverDeadline;
+            return run;
+        };
+        // "Its response is that finish less j·T."
+        run.note(finish, finish - release);
+        // "by (j+1)·T" is at that time or before it.
+        if finish <= release + period {
+            run.end = End::Closed;
+            return run;
+        }
+    }
+    run
+}
+
+/// The run of a placed job's instances: "its finish is the least t that equals its demand", sought
+/// by trying every t.
+pub fn run(jobs: &[Job], settings: &[Setting], index: usize) -> Run {
+    let above = jobs_above(jobs, settings, index);
+    run_of_job(
+        &jobs[index],
+        |own_work| layer_demand(settings, index, own_work),
+        |demand, earliest, latest| {
+            (earliest..=latest).find(|time| demand + total_interference(&above, *time) == *time)
+        },
+    )
+}
+
+/// The bound of a job. A job not placed has bound 0.
 pub fn bound(jobs: &[Job], settings: &[Setting], index: usize) -> u16 {
     if settings[index].policy == NOT_PLACED {
         return 0;
     }
-    let layer_demand = layer_demand(jobs, settings, index);
-    let above = jobs_above(jobs, settings, index);
-    for bound in 1..=jobs[index].deadline {
-        let time = u32::from(bound);
-        let from_above: u32 = above.iter().map(|job| interference(job, time)).sum();
-        if layer_demand + from_above == time {
-            return bound;
-        }
-    }
-    0
+    run(jobs, settings, index).bound()
 }
 
 /// "Bound, 2 bytes, one per job in job order; 0 means over the deadline, or not placed."

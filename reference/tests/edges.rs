@@ -27,6 +27,23 @@ fn a_cost_may_equal_its_deadline() {
 }
 
 #[test]
+fn the_longest_deadline_is_60_000_whatever_the_period() {
+    assert_eq!(read(&job_block(&[(1, 1, 60_000)])), Ok(1));
+    assert_eq!(read(&job_block(&[(1, 1, 60_001)])), Err(5));
+    assert_eq!(read(&job_block(&[(60_000, 60_000, 60_001)])), Err(5));
+    assert_eq!(read(&job_block(&[(1, 60_000, 65_535)])), Err(5));
+    assert_eq!(read(&job_block(&[(5, 8, 9)])), Ok(1));
+}
+
+#[test]
+fn a_cost_may_equal_its_period_and_not_be_above_it() {
+    assert_eq!(read(&job_block(&[(5, 5, 9)])), Ok(1));
+    assert_eq!(read(&job_block(&[(6, 5, 9)])), Err(5));
+    assert_eq!(read(&job_block(&[(6, 5, 6)])), Err(5));
+    assert_eq!(read(&job_block(&[(1, 0, 9)])), Err(5));
+}
+
+#[test]
 fn a_block_has_at_most_64_bytes() {
     assert_eq!(read(&job_block(&[(1, 9, 9); 8])), Ok(8));
     assert_eq!(read(&job_block(&[(1, 9, 9); 9])), Err(1));

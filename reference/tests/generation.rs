@@ -1,10 +1,13 @@
 //! What the stored cases must hold, and what must hold of every case.
 
 use reference::configuration::{Setting, SETTING_BYTES};
-use reference::frames::{answer, Frame, Input, BOUNDS, EDIT, KEY, MARK, PLAN, SAME_BYTES};
+use reference::frames::{
+    answer, Frame, Input, BOUNDS, EDIT, KEY, MARK, PLAN, SAME_BYTES, WRITE_JOBS,
+};
+use reference::generation::long_deadlines::has_long_deadline;
 use reference::generation::present::faults_present;
 use reference::generation::summary::Summary;
-use reference::generation::{cases, input_of_case};
+use reference::generation::{cases, input_of_case, FIRST_LONG_DEADLINE_CASE};
 use reference::jobs::Job;
 use reference::response_time::{
     bound, bounds_of_settings, interference, jobs_above, layer_demand, BOUND_BYTES,
@@ -14,7 +17,7 @@ use std::sync::OnceLock;
 /// The stored cases.
 fn stored() -> &'static [(Frame, Frame)] {
     static CASES: OnceLock<Vec<(Frame, Frame)>> = OnceLock::new();
-    CASES.get_or_init(|| cases(1, 3600))
+    CASES.get_or_init(|| cases(1, 5400))
 }
 
 fn stored_inputs() -> Vec<(Input, &'static Frame)> {
@@ -72,6 +75,90 @@ fn minimums_of_the_planner() {
     assert!(plans.with_longest_period >= 60, "{plans:?}");
     assert!(plans.by_jobs.iter().all(|count| *count >= 20), "{plans:?}");
     assert!(plans.by_width.iter().all(|count| *count >= 20), "{plans:?}");
+}
+
+#[test]
+fn minimums_of_runs() {
+    let [bounds, mark, plan] = Summary::of_cases(stored()).long_deadlines.entries;
+    for counts in [bounds, mark] {
+        assert!(counts.cases >= 150, "{counts:?}");
+        assert!(counts.closed_at_first >= 50, "{counts:?}");
+        assert!(counts.closed_at_second >= 30, "{counts:?}");
+        assert!(counts.closed_later >= 50, "{counts:?}");
+        assert!(counts.closed_at_last >= 10, "{counts:?}");
+        assert!(counts.not_closed >= 20, "{counts:?}");
+        assert!(counts.over_deadline_at_first >= 20, "{counts:?}");
+        assert!(counts.over_deadline_later >= 20, "{counts:?}");
+        assert!(counts.largest_not_last >= 100, "{counts:?}");
+        assert!(counts.largest_inside >= 20, "{counts:?}");
+        assert!(counts.long_finish >= 30, "{counts:?}");
+        assert!(counts.longer_finish >= 10, "{counts:?}");
+        assert!(counts.longest_deadline >= 30, "{counts:?}");
+        assert!(counts.period_is_cost >= 10, "{counts:?}");
+    }
+    assert!(plan.cases >= 200 && plan.cases_shared >= 60, "{plan:?}");
+    assert!(plan.closed_at_second >= 30, "{plan:?}");
+    assert!(plan.closed_later >= 30, "{plan:?}");
+    assert!(plan.closed_at_last >= 3, "{plan:?}");
+    assert!(plan.largest_inside >= 20, "{plan:?}");
+    assert!(plan.long_finish >= 10, "{plan:?}");
+}
+
+/// The jobs that refusal 5 of a call is about. A table with a count above 8 has none, as its
+/// entries past the list hold any bytes.
+fn judged_jobs(input: &Input) -> Vec<Job> {
+    match input.entry {
+        SAME_BYTES => Vec::new(),
+        WRITE_JOBS if input.number > 8 => Vec::new(),
+        EDIT => vec![Job {
+            id: 0,
+            cost: input.cost,
+            period: input.period,
+            deadline: input.deadline,
+        }],
+        WRITE_JOBS => input.job_table()[..usize::from(input.number)].to_vec(),
+        _ => input.job_slice(),
+    }
+}
+
+#[test]
+fn deadlines_are_above_periods_in_two_thirds_of_the_later_lists() {
+    let (mut lists, mut with_long_deadline) = (0, 0);
+    for (case, (input, _)) in stored_inputs().iter().enumerate() {
+        let jobs = judged_jobs(input);
+        if case < FIRST_LONG_DEADLINE_CASE {
+            let is_one_above = |job: &Job| job.deadline - job.period == 1;
+            let mut long = jobs.iter().filter(|job| job.deadline > job.period);
+            assert!(long.all(is_one_above), "case {case}");
+        } else if !jobs.is_empty() {
+            lists += 1;
+            with_long_deadline += usize::from(has_long_deadline(&jobs));
+        }
+    }
+    assert!(
+        3 * with_long_deadline >= 2 * lists,
+        "{with_long_deadline} of {lists}"
+    );
+}
+
+#[test]
+fn refusal_5_comes_with_each_of_its_reasons_alone() {
+    let mut alone = [0; 5];
+    for (input, _) in &stored_inputs()[FIRST_LONG_DEADLINE_CASE..] {
+        let mut reasons = [false; 5];
+        for job in judged_jobs(input) {
+            reasons[0] |= job.cost == 0;
+            reasons[1] |= job.cost > job.deadline;
+            reasons[2] |= job.cost > job.period;
+            reasons[3] |= job.period > 60_000;
+            reasons[4] |= job.deadline > 60_000;
+        }
+        let is_alone = reasons.iter().filter(|applies| **applies).count() == 1;
+        for (count, applies) in alone.iter_mut().zip(reasons) {
+            *count += usize::from(is_alone && applies);
+        }
+    }
+    assert!(alone.iter().all(|count| *count >= 10), "{alone:?}");
 }
 
 #[test]
@@ -147,13 +234,14 @@ fn the_planner_and_the_bounds_entry_agree() {
     assert!(compared >= 500, "{compared} plans compared");
 }
 
-/// The least time to the deadline that equals the demand when sums are kept in two bytes.
+/// The least time to the deadline, which is up to the period, that equals the demand when sums are
+/// kept in two bytes.
 fn bound_in_two_bytes(jobs: &[Job], settings: &[Setting], index: usize) -> u16 {
-    let layer_demand = layer_demand(jobs, settings, index) as u16;
+    let layer_demand = layer_demand(settings, index, u64::from(jobs[index].cost)) as u16;
     let above = jobs_above(jobs, settings, index);
     let demand = |time: u16| {
         above.iter().fold(layer_demand, |sum, job| {
-            sum.wrapping_add(interference(job, u32::from(time)) as u16)
+            sum.wrapping_add(interference(job, u64::from(time)) as u16)
         })
     };
     (1..=jobs[index].deadline)
@@ -171,6 +259,7 @@ fn some_bounds_differ_if_sums_are_kept_in_two_bytes() {
             let bounds = bounds_of_settings(&jobs, settings);
             let differs = |index: usize| {
                 settings[index].level != 0
+                    && jobs[index].deadline <= jobs[index].period
                     && bound_in_two_bytes(&jobs, settings, index) != bounds[index]
             };
             differing += usize::from((0..jobs.len()).any(differs));

@@ -4,10 +4,11 @@
 use reference::configuration::{judge_range, not_placed, QuantumRange, Setting};
 use reference::frames::{Input, PLAN};
 use reference::generation::input_of_case;
+use reference::generation::long_deadlines::has_long_deadline;
 use reference::jobs::{jobs_of_block, Job};
 use reference::planner::{members_of_set, place, plan_jobs, subsets_in_order, whole_set, Plan};
 use reference::quanta::next_quanta_list;
-use reference::response_time::{bound, bounds_of_settings};
+use reference::response_time::{bound, bounds_of_settings, INSTANCES};
 
 /// The settings with the set taken at the level, if some quanta serve each of its jobs.
 fn settings_with_set(
@@ -67,6 +68,16 @@ fn literal_plan(jobs: &[Job], range: QuantumRange) -> Plan {
     }
 }
 
+/// The last time at which a finish of a job is sought.
+fn last_time(job: &Job) -> u64 {
+    let (period, deadline) = (u64::from(job.period), u64::from(job.deadline));
+    if deadline > period {
+        (INSTANCES - 1) * period + deadline
+    } else {
+        deadline
+    }
+}
+
 /// The jobs and the range of a planner case that the literal search affords.
 fn affordable_case(input: &Input) -> Option<(Vec<Job>, QuantumRange)> {
     if input.entry != PLAN {
@@ -75,28 +86,30 @@ fn affordable_case(input: &Input) -> Option<(Vec<Job>, QuantumRange)> {
     let jobs = jobs_of_block(input.block_a()).ok()?;
     let range = judge_range(input.low, input.high).ok()?;
     let lists_of_one_job = u64::from(range.highest - range.lowest) + 2;
-    let longest = jobs.iter().map(|job| u64::from(job.deadline)).max()?;
+    let longest = jobs.iter().map(last_time).max()?;
     let steps = lists_of_one_job
         .saturating_pow(jobs.len() as u32)
         .saturating_mul(longest);
-    (steps < 4_000_000).then_some((jobs, range))
+    (steps < 40_000_000).then_some((jobs, range))
 }
 
 #[test]
 fn the_planner_agrees_with_the_literal_search() {
-    let mut compared = 0;
-    for case in 0..3600 {
+    let (mut compared, mut with_long_deadline) = (0, 0);
+    for case in 0..5400 {
         if let Some((jobs, range)) = affordable_case(&input_of_case(7, case)) {
             assert_eq!(plan_jobs(&jobs, range), literal_plan(&jobs, range));
             compared += 1;
+            with_long_deadline += usize::from(has_long_deadline(&jobs));
         }
     }
-    assert!(compared >= 200, "{compared} lists compared");
+    assert!(compared >= 300, "{compared} lists compared");
+    assert!(with_long_deadline >= 100, "{with_long_deadline} lists");
 }
 
 #[test]
 fn the_count_of_sets_considered_is_below_two_to_the_power_of_the_jobs() {
-    for case in 0..1800 {
+    for case in (0..1800).chain(3600..4500) {
         if let Some((jobs, range)) = affordable_case(&input_of_case(8, case)) {
             assert!(plan_jobs(&jobs, range).considered < 1 << jobs.len());
         }

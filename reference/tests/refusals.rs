@@ -85,7 +85,9 @@ fn refusals_of_the_job_block() {
     assert_eq!(changed(|call| call.block[8] = 1), [3; 5]);
     assert_eq!(changed(|call| call.block[3] = 0), [5; 5]);
     assert_eq!(changed(|call| call.block[3] = 9), [5; 5]);
-    assert_eq!(changed(|call| call.block[7] = 9), [5; 5]);
+    assert_eq!(changed(|call| call.block[5] = 5), [5; 5]);
+    assert_eq!(changed(|call| call.block[7] = 9), [0; 5]);
+    assert_eq!(changed(|call| call.block[6] = 0xff), [5; 5]);
     assert_eq!(changed(|call| call.block[12] = 0xff), [5; 5]);
 }
 
@@ -220,7 +222,10 @@ fn refusals_of_an_edit() {
     assert_eq!(edit_of(2, 2, 0, 0, 0), 4);
     assert_eq!(edit_of(2, 1, 0, 5, 5), 5);
     assert_eq!(edit_of(2, 1, 5, 5, 4), 5);
-    assert_eq!(edit_of(2, 1, 5, 5, 6), 5);
+    assert_eq!(edit_of(2, 1, 5, 5, 6), 0);
+    assert_eq!(edit_of(2, 1, 6, 5, 6), 5);
+    assert_eq!(edit_of(2, 1, 5, 5, 60_000), 0);
+    assert_eq!(edit_of(2, 1, 5, 5, 60_001), 5);
     assert_eq!(edit_of(2, 1, 5, 60_001, 6), 5);
 }
 

@@ -78,7 +78,7 @@ fn time_for(jobs: [Job; Job::MOST], above: u8, taken: u64, own: u64, limit: u32,
     0
 }
 
-// The own demand of an instance that is one of so many from the first on: their work, and the layer's share for it.
+// The own demand of so many instances of a job: their work, and the layer's share for it.
 fn own_demand(cost: u32, count: u32, quantum: u8, others: u32) -> u64
     requires { ⌜ (cost < 2 ^ 16) × (count ≤ 64) × (others ≤ 2 ^ 11) ⌝ }
     ensures { λ r. ⌜ (r ≡ ownDemand quantum others (count * cost)) × (r < 2 ^ 40) ⌝ }

@@ -2,8 +2,9 @@
 
 use crate::frames::{Input, EDIT};
 use crate::generation::call::{blank_input, put};
-use crate::generation::job_faults::with_bad_times;
+use crate::generation::job_faults::BadTimes;
 use crate::generation::lists::job_of_times;
+use crate::generation::long_deadlines::deadline_beyond;
 use crate::generation::random::Random;
 use crate::jobs::{record_of_job, Job, LONGEST_PERIOD, MOST_JOBS};
 
@@ -39,13 +40,21 @@ fn up_to(random: &mut Random, most: u16) -> u16 {
     }
 }
 
-/// Accepted times, among them the least, the longest and C equal to D.
-fn good_times(random: &mut Random) -> Job {
+/// Accepted times, among them the least, the longest and C equal to D; no D is above its T.
+pub fn good_times(random: &mut Random) -> Job {
     let most = random.choose(&[1, 10, 1_000, LONGEST_PERIOD]);
     let period = up_to(random, most);
     let deadline = up_to(random, period);
     let cost = up_to(random, deadline);
     job_of_times(cost, period, deadline)
+}
+
+/// Accepted times with a D above T unless T is the longest, among them T equal to C.
+pub fn good_times_with_long_deadline(random: &mut Random) -> Job {
+    let most = random.choose(&[1, 10, 1_000, LONGEST_PERIOD]);
+    let period = up_to(random, most);
+    let cost = up_to(random, period);
+    job_of_times(cost, period, deadline_beyond(random, period))
 }
 
 /// A slice of jobs with any numbers at all, as the entries that are not edited are not judged.
@@ -90,8 +99,13 @@ fn lent_and_place(random: &mut Random, kind: Kind, round: usize) -> (usize, usiz
     }
 }
 
-/// The edit's call that is the `ordinal`-th, counted from 0.
-pub fn edit_call(random: &mut Random, ordinal: usize) -> Input {
+/// The edit's call that is the `ordinal`-th, counted from 0, with times of the given kinds.
+pub fn edit_call(
+    random: &mut Random,
+    ordinal: usize,
+    good_times: fn(&mut Random) -> Job,
+    bad_times: BadTimes,
+) -> Input {
     let kind = KINDS[ordinal % KINDS.len()];
     // Calls of one kind see the rounds 0, 1, 2 and so on, so that counts and places come in turn.
     let before = |end: usize| KINDS[..end].iter().filter(|other| **other == kind).count();
@@ -101,7 +115,7 @@ pub fn edit_call(random: &mut Random, ordinal: usize) -> Input {
     let mut times = good_times(random);
     let may_be_bad = matches!(kind, Kind::BadCount | Kind::BadPlace);
     if kind == Kind::BadTimes || may_be_bad && random.once_in(2) {
-        times = with_bad_times(random, &times);
+        times = bad_times(random, &times);
     }
     let mut input = blank_input(EDIT);
     let records: Vec<u8> = jobs.iter().flat_map(record_of_job).collect();

@@ -6,10 +6,11 @@ use crate::frames::{
     Input, BOUNDS, KEY, MARK, PLAN, READ_CONFIGURATION, READ_JOBS, WRITE_CONFIGURATION, WRITE_JOBS,
 };
 use crate::generation::call::{takes_settings, Call};
-use crate::generation::job_faults::{faults_among, put_job_faults};
-use crate::generation::layers::{built, leave_layer_out, random_settings, Configured};
+use crate::generation::job_faults::{faults_among, put_job_faults, with_bad_times, BadTimes};
+use crate::generation::layers::{add_layer, built, leave_layer_out, random_settings, Configured};
 use crate::generation::lists::{give_ids, heavy, light, near_full, range, small};
-use crate::generation::plans::{any_plan, planner_list};
+use crate::generation::plans::{affordable, any_plan, planner_list, Deadlines};
+use crate::generation::present::faults_present;
 use crate::generation::random::Random;
 use crate::generation::setting_faults::put_setting_faults;
 use crate::jobs::{Job, LONGEST_PERIOD, MOST_JOBS};
@@ -42,14 +43,17 @@ fn refusals_in_turn(entry: u8) -> &'static [u8] {
     }
 }
 
-/// The faults to put into a call: none, one, or one with later ones.
-fn chosen_faults(random: &mut Random, entry: u8, ordinal: usize) -> Vec<u8> {
-    let accepted = accepted_of_ten(entry);
+/// The faults to put into a call: none for so many of ten calls, else one, or one with later ones.
+pub fn chosen_faults(
+    random: &mut Random,
+    ordinal: usize,
+    accepted: usize,
+    refusals: &[u8],
+) -> Vec<u8> {
     if ordinal % 10 < accepted {
         return Vec::new();
     }
     let refused = ordinal / 10 * (10 - accepted) + ordinal % 10 - accepted;
-    let refusals = refusals_in_turn(entry);
     let first = refusals[refused % refusals.len()];
     let mut faults = vec![first];
     let later: Vec<u8> = refusals
@@ -68,7 +72,7 @@ fn chosen_faults(random: &mut Random, entry: u8, ordinal: usize) -> Vec<u8> {
 }
 
 /// A number of jobs that leaves each fault in records a record of its own.
-fn job_count(random: &mut Random, faults: &[u8]) -> usize {
+pub fn job_count(random: &mut Random, faults: &[u8]) -> usize {
     let least = match faults_among(faults, &[2, 3, 5, 8, 9, 10, 11]).len() {
         0 => 1,
         1 => 2,
@@ -78,7 +82,7 @@ fn job_count(random: &mut Random, faults: &[u8]) -> usize {
 }
 
 /// A list of any kind, without regard to what the planner makes of it.
-fn any_list(random: &mut Random, count: usize) -> Vec<Job> {
+pub fn any_list(random: &mut Random, count: usize) -> Vec<Job> {
     let mut jobs = match random.below(4) {
         0 => light(random, count),
         1 => near_full(random, count),
@@ -106,8 +110,8 @@ fn tighten(random: &mut Random, list: &mut Configured) {
 /// A list with a configuration that refusals 7 to 10 let by, full or with a job not placed.
 fn configured(random: &mut Random, count: usize, range: QuantumRange, full: bool) -> Configured {
     let mut list = match random.below(8) {
-        0..=3 => built(random, count, range),
-        4 => any_plan(random, count, range),
+        0..=3 => built(random, count, range, add_layer),
+        4 => any_plan(random, count, range, Deadlines::UpToPeriods),
         _ => {
             let jobs = any_list(random, count);
             let settings = random_settings(random, &jobs, range, full);
@@ -127,12 +131,10 @@ fn configured(random: &mut Random, count: usize, range: QuantumRange, full: bool
 }
 
 /// The jobs, the range and the settings of a call before any fault is put in.
-fn accepted_parts(
-    random: &mut Random,
-    entry: u8,
-    ordinal: usize,
-    faults: &[u8],
-) -> (Vec<Job>, QuantumRange, Vec<Setting>) {
+pub type Parts = (Vec<Job>, QuantumRange, Vec<Setting>);
+
+/// The parts of a call with lists whose deadlines are up to the periods.
+pub fn accepted_parts(random: &mut Random, entry: u8, ordinal: usize, faults: &[u8]) -> Parts {
     let count = job_count(random, faults);
     if takes_settings(entry) {
         let range = range(random);
@@ -146,23 +148,45 @@ fn accepted_parts(
     }
     let fixed = (entry == KEY).then_some(KEY_RANGE);
     if faults.is_empty() && matches!(entry, PLAN | KEY) {
-        let (jobs, range) = planner_list(random, ordinal, count, fixed);
+        let (jobs, range) = planner_list(random, ordinal, count, fixed, Deadlines::UpToPeriods);
         return (jobs, range, Vec::new());
     }
     let range = fixed.unwrap_or_else(|| range(random));
     (any_list(random, count), range, Vec::new())
 }
 
-/// The call of an entry that is the `ordinal`-th of its entry, counted from 0.
-pub fn job_call(random: &mut Random, entry: u8, ordinal: usize) -> Input {
-    let faults = chosen_faults(random, entry, ordinal);
-    let (jobs, range, settings) = accepted_parts(random, entry, ordinal, &faults);
+/// The call of an entry with these parts and faults.
+pub fn call_with_faults(
+    random: &mut Random,
+    entry: u8,
+    (jobs, range, settings): Parts,
+    faults: &[u8],
+    bad_times: BadTimes,
+) -> Input {
     let mut call = Call::new(random, entry, &jobs, range, &settings);
-    put_job_faults(random, &mut call, &faults);
+    put_job_faults(random, &mut call, faults, bad_times);
     // The configuration keeps to the jobs' ids, so that a fault in an id is not two faults.
     for (setting, job) in call.setting_records.iter_mut().zip(&call.job_records) {
         setting[0] = job[0];
     }
-    put_setting_faults(random, &mut call, &faults);
+    put_setting_faults(random, &mut call, faults);
     call.into_input(random)
+}
+
+/// The call of an entry that is the `ordinal`-th of its entry, counted from 0.
+pub fn job_call(random: &mut Random, entry: u8, ordinal: usize) -> Input {
+    let accepted = accepted_of_ten(entry);
+    let faults = chosen_faults(random, ordinal, accepted, refusals_in_turn(entry));
+    let parts = accepted_parts(random, entry, ordinal, &faults);
+    let mut input = call_with_faults(random, entry, parts, &faults, with_bad_times);
+    // The one fault meant may be a deadline one above its period, which is accepted. The list is
+    // then planned, in a range that the search affords.
+    if entry == PLAN && !faults.is_empty() && faults_present(&input).is_empty() {
+        let range = QuantumRange {
+            lowest: input.low,
+            highest: input.high,
+        };
+        input.high = affordable(&input.job_slice(), range).0.highest;
+    }
+    input
 }

@@ -2,7 +2,12 @@
 
 use crate::generation::call::Call;
 use crate::generation::random::Random;
-use crate::jobs::{job_of_record, record_of_job, Job, JOB_BYTES, LONGEST_PERIOD, MOST_JOBS};
+use crate::jobs::{
+    job_of_record, record_of_job, Job, JOB_BYTES, LONGEST_DEADLINE, LONGEST_PERIOD, MOST_JOBS,
+};
+
+/// A change to a job's times that puts a fault into them.
+pub type BadTimes = fn(&mut Random, &Job) -> Job;
 
 /// The faults that are among the given numbers.
 pub fn faults_among(faults: &[u8], numbers: &[u8]) -> Vec<u8> {
@@ -26,14 +31,14 @@ pub fn fault_records(random: &mut Random, faults: usize, records: usize) -> Vec<
 
 /// Puts the faults among 2, 3 and 5 into job records, each into a record of its own if there are
 /// enough.
-pub fn put_job_faults(random: &mut Random, call: &mut Call, faults: &[u8]) {
+pub fn put_job_faults(random: &mut Random, call: &mut Call, faults: &[u8], bad_times: BadTimes) {
     let in_records = faults_among(faults, &[2, 3, 5]);
     let records = fault_records(random, in_records.len(), call.job_records.len());
     for (fault, record) in in_records.iter().zip(records) {
         match fault {
             2 => put_identity_fault(random, call, record),
             3 => put_order_fault(random, call, record),
-            _ => put_times_fault(random, call, record),
+            _ => put_times_fault(random, call, record, bad_times),
         }
     }
     if faults.contains(&1) {
@@ -66,14 +71,16 @@ fn put_order_fault(random: &mut Random, call: &mut Call, record: usize) {
 }
 
 /// Refusal 5: one job with times out of order or out of range.
-fn put_times_fault(random: &mut Random, call: &mut Call, record: usize) {
+fn put_times_fault(random: &mut Random, call: &mut Call, record: usize, bad_times: BadTimes) {
     let bytes = &mut call.job_records[record];
     let second = bytes[1];
-    *bytes = record_of_job(&with_bad_times(random, &job_of_record(bytes)));
+    *bytes = record_of_job(&bad_times(random, &job_of_record(bytes)));
     bytes[1] = second;
 }
 
-/// The job with times that refusal 5 names. The job's own times are accepted ones.
+/// The job with times that refusal 5 names or, once in seven times, with a deadline one above its
+/// period, which is accepted unless the period is the longest. The job's own times are accepted
+/// ones.
 pub fn with_bad_times(random: &mut Random, job: &Job) -> Job {
     let mut bad = *job;
     match random.below(7) {
@@ -84,6 +91,31 @@ pub fn with_bad_times(random: &mut Random, job: &Job) -> Job {
         4 => (bad.cost, bad.period, bad.deadline) = (u16::MAX, u16::MAX, u16::MAX),
         5 => (bad.cost, bad.period, bad.deadline) = (0, 0, 0),
         _ => bad.period = random.ticks(LONGEST_PERIOD + 1, u16::MAX),
+    }
+    bad
+}
+
+/// The job with times that refusal 5 names, most of them for one reason alone. The job's own times
+/// are accepted ones.
+pub fn with_one_bad_time(random: &mut Random, job: &Job) -> Job {
+    let mut bad = *job;
+    match random.below(12) {
+        0 => bad.cost = 0,
+        1 => bad.deadline = job.cost - 1,
+        2 | 3 => {
+            bad.cost = job.period + 1;
+            bad.deadline = job.deadline.max(bad.cost);
+        }
+        4 => bad.period = job.cost - 1,
+        5 => bad.period = random.ticks(0, job.cost - 1),
+        6 => bad.deadline = LONGEST_DEADLINE + 1,
+        7 | 8 => bad.deadline = random.ticks(LONGEST_DEADLINE + 1, u16::MAX),
+        9 => bad.period = LONGEST_PERIOD + 1,
+        10 => bad.period = random.ticks(LONGEST_PERIOD + 1, u16::MAX),
+        _ => {
+            (bad.cost, bad.period, bad.deadline) =
+                random.choose(&[(0, 0, 0), (u16::MAX, u16::MAX, u16::MAX)])
+        }
     }
     bad
 }

@@ -17,8 +17,12 @@ pub struct Configured {
     pub settings: Vec<Setting>,
 }
 
+/// A rule that adds a layer of so many jobs below all others, with costs up to about ten times a
+/// scale; false if a job would have no bound.
+pub type LayerRule = fn(&mut Random, &mut Configured, usize, QuantumRange, u16) -> bool;
+
 /// The setting of a member of a layer of so many jobs.
-fn member_setting(random: &mut Random, level: u8, size: usize, range: QuantumRange) -> Setting {
+pub fn member_setting(random: &mut Random, level: u8, size: usize, range: QuantumRange) -> Setting {
     let (policy, quantum) = if size == 1 {
         (FIFO, 0)
     } else {
@@ -32,15 +36,15 @@ fn member_setting(random: &mut Random, level: u8, size: usize, range: QuantumRan
     }
 }
 
-/// Adds a layer below all others. Its deadlines are the bounds or a little more; false if a job
-/// would have no bound.
-fn add_layer(
+/// Adds the jobs of a layer below all others, with the longest times, and answers the place of the
+/// first.
+pub fn add_members(
     random: &mut Random,
     list: &mut Configured,
     size: usize,
     range: QuantumRange,
     scale: u16,
-) -> bool {
+) -> usize {
     let start = list.jobs.len();
     let level = list.settings.last().map_or(0, |setting| setting.level) + 1;
     for _ in 0..size {
@@ -50,7 +54,19 @@ fn add_layer(
         list.settings
             .push(member_setting(random, level, size, range));
     }
-    for index in start..list.jobs.len() {
+    start
+}
+
+/// Adds a layer below all others. Its deadlines are the bounds or a little more, and no deadline is
+/// above its period; false if a job would have no bound.
+pub fn add_layer(
+    random: &mut Random,
+    list: &mut Configured,
+    size: usize,
+    range: QuantumRange,
+    scale: u16,
+) -> bool {
+    for index in add_members(random, list, size, range, scale)..list.jobs.len() {
         let bound = bound(&list.jobs, &list.settings, index);
         if bound == 0 {
             return false;
@@ -74,6 +90,7 @@ fn add_layers(
     mut list: Configured,
     count: usize,
     range: QuantumRange,
+    add_layer: LayerRule,
 ) -> Option<Configured> {
     let scale = random.choose(&SCALES);
     while list.jobs.len() < count {
@@ -87,7 +104,7 @@ fn add_layers(
 }
 
 /// Levels that rise from 1 to n with the layers but may leave some out.
-fn skip_levels(random: &mut Random, settings: &mut [Setting]) {
+pub fn skip_levels(random: &mut Random, settings: &mut [Setting]) {
     let layers = settings.iter().map(|setting| setting.level).max();
     let levels = random.distinct(usize::from(layers.unwrap_or(0)), settings.len());
     for setting in settings {
@@ -98,7 +115,7 @@ fn skip_levels(random: &mut Random, settings: &mut [Setting]) {
 }
 
 /// Puts jobs and settings into one new order and gives them ids.
-fn reorder(random: &mut Random, list: Configured) -> Configured {
+pub fn reorder(random: &mut Random, list: Configured) -> Configured {
     let mut pairs: Vec<(Job, Setting)> = list.jobs.into_iter().zip(list.settings).collect();
     random.shuffle(&mut pairs);
     let (mut jobs, mut settings): (Vec<Job>, Vec<Setting>) = pairs.into_iter().unzip();
@@ -111,9 +128,14 @@ fn reorder(random: &mut Random, list: Configured) -> Configured {
 
 /// A list with a full configuration that passes. If no attempt gives one, it is a light list with
 /// a random configuration.
-pub fn built(random: &mut Random, count: usize, range: QuantumRange) -> Configured {
+pub fn built(
+    random: &mut Random,
+    count: usize,
+    range: QuantumRange,
+    add_layer: LayerRule,
+) -> Configured {
     for _ in 0..ATTEMPTS {
-        if let Some(mut list) = add_layers(random, Configured::default(), count, range) {
+        if let Some(mut list) = add_layers(random, Configured::default(), count, range, add_layer) {
             skip_levels(random, &mut list.settings);
             return reorder(random, list);
         }
@@ -143,17 +165,22 @@ fn two_short_jobs(random: &mut Random) -> Configured {
 
 /// A list whose lower layers can be taken, while its two top jobs have no slack, so that neither
 /// can wait for the other or share a level. If no attempt gives one, it is a built list.
-pub fn stuck_on_top(random: &mut Random, count: usize, range: QuantumRange) -> Vec<Job> {
+pub fn stuck_on_top(
+    random: &mut Random,
+    count: usize,
+    range: QuantumRange,
+    add_layer: LayerRule,
+) -> Vec<Job> {
     for _ in 0..ATTEMPTS {
         let top = two_short_jobs(random);
-        if let Some(mut list) = add_layers(random, top, count, range) {
+        if let Some(mut list) = add_layers(random, top, count, range, add_layer) {
             for job in &mut list.jobs[..2] {
                 job.deadline = job.cost;
             }
             return reorder(random, list).jobs;
         }
     }
-    built(random, count, range).jobs
+    built(random, count, range, add_layer).jobs
 }
 
 /// Any configuration of a list, full or with at least one job not placed.

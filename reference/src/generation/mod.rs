@@ -7,9 +7,13 @@ mod job_calls;
 mod job_faults;
 mod layers;
 mod lists;
+mod long_deadline_calls;
+pub mod long_deadlines;
 pub mod plans;
 pub mod present;
 pub mod random;
+pub mod run_counts;
+mod runs;
 mod setting_faults;
 pub mod summary;
 
@@ -18,11 +22,17 @@ use crate::frames::{
     WRITE_CONFIGURATION, WRITE_JOBS,
 };
 use byte_tests::same_bytes_call;
-use edits::edit_call;
+use edits::{edit_call, good_times, good_times_with_long_deadline};
 use job_calls::job_call;
+use job_faults::{with_bad_times, with_one_bad_time};
+use long_deadline_calls::long_deadline_call;
 use random::Random;
 
-/// How many cases of each entry are in one round of cases.
+/// From this case on most lists have deadlines above periods. In the cases below it a list's
+/// deadlines are up to its periods, but for a few calls with one deadline one tick above.
+pub const FIRST_LONG_DEADLINE_CASE: usize = 3_600;
+
+/// How many cases of each entry are in one round of the cases below that one.
 const ROUND: [(u8, usize); 10] = [
     (READ_JOBS, 6),
     (WRITE_JOBS, 5),
@@ -36,14 +46,27 @@ const ROUND: [(u8, usize); 10] = [
     (KEY, 6),
 ];
 
-/// The entry of a case, and how many cases of that entry come before it.
-fn entry_of_case(case: usize) -> (u8, usize) {
-    let cases_of_round: usize = ROUND.iter().map(|(_, cases)| cases).sum();
-    let round = case / cases_of_round;
+/// How many cases of each entry are in one round of the cases from that one on.
+const LONG_DEADLINE_ROUND: [(u8, usize); 9] = [
+    (READ_JOBS, 4),
+    (WRITE_JOBS, 4),
+    (READ_CONFIGURATION, 4),
+    (WRITE_CONFIGURATION, 4),
+    (BOUNDS, 14),
+    (MARK, 12),
+    (PLAN, 12),
+    (EDIT, 3),
+    (KEY, 3),
+];
+
+/// The entry of a case in rounds, and how many cases of that entry come before it.
+fn entry_in_rounds(round: &[(u8, usize)], case: usize) -> (u8, usize) {
+    let cases_of_round: usize = round.iter().map(|(_, cases)| cases).sum();
+    let rounds_before = case / cases_of_round;
     let mut place = case % cases_of_round;
-    for (entry, cases) in ROUND {
-        if place < cases {
-            return (entry, round * cases + place);
+    for (entry, cases) in round {
+        if place < *cases {
+            return (*entry, rounds_before * cases + place);
         }
         place -= cases;
     }
@@ -53,10 +76,23 @@ fn entry_of_case(case: usize) -> (u8, usize) {
 /// The input of a case, which depends on the seed and the case's number alone.
 pub fn input_of_case(seed: u64, case: usize) -> Input {
     let mut random = Random::of_case(seed, case as u64);
-    let (entry, ordinal) = entry_of_case(case);
+    if case >= FIRST_LONG_DEADLINE_CASE {
+        let place = case - FIRST_LONG_DEADLINE_CASE;
+        let (entry, ordinal) = entry_in_rounds(&LONG_DEADLINE_ROUND, place);
+        return match entry {
+            EDIT => edit_call(
+                &mut random,
+                ordinal,
+                good_times_with_long_deadline,
+                with_one_bad_time,
+            ),
+            _ => long_deadline_call(&mut random, entry, ordinal),
+        };
+    }
+    let (entry, ordinal) = entry_in_rounds(&ROUND, case);
     match entry {
         SAME_BYTES => same_bytes_call(&mut random, ordinal),
-        EDIT => edit_call(&mut random, ordinal),
+        EDIT => edit_call(&mut random, ordinal, good_times, with_bad_times),
         _ => job_call(&mut random, entry, ordinal),
     }
 }

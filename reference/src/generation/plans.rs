@@ -1,11 +1,15 @@
 //! Lists and ranges for the planner, drawn until the planner's outcome is the one wanted.
 
-use crate::configuration::{QuantumRange, Setting, NOT_PLACED};
-use crate::generation::layers::{built, stuck_on_top, Configured};
+use crate::configuration::{QuantumRange, Setting, NOT_PLACED, ROUND_ROBIN};
+use crate::generation::layers::{add_layer, built, stuck_on_top, Configured};
 use crate::generation::lists::{
     equal, give_ids, heavy, light, near_full, range, small, stuck, worked,
 };
+use crate::generation::long_deadlines::{
+    add_layer_with_long_deadlines, has_long_deadline, with_long_deadlines,
+};
 use crate::generation::random::Random;
+use crate::generation::runs::list_with_run;
 use crate::jobs::Job;
 use crate::planner::{plan_jobs_within, Plan};
 
@@ -17,6 +21,9 @@ const ATTEMPTS: usize = 48;
 
 /// After so many draws the list drawn has one job less, as short lists have more of the outcomes.
 const ATTEMPTS_OF_ONE_LENGTH: usize = 8;
+
+/// A list with a run of a wanted kind has one of so many turns.
+const TURNS_OF_RUNS: usize = 1_000;
 
 /// What the planner makes of a list.
 #[derive(Clone, Copy, Debug, PartialEq, Eq)]
@@ -85,21 +92,90 @@ fn list(
         (1 | 2, None | Some(Outcome::NothingPlaced)) => heavy(random, count),
         (3 | 4, _) => near_full(random, count),
         (0..=2, Some(Outcome::StoppedShort)) | (_, Some(Outcome::StoppedShortSharing)) => {
-            return stuck_on_top(random, count, range)
+            return stuck_on_top(random, count, range, add_layer)
         }
         (5, _) => stuck(random, count),
         (6, _) => equal(random, count),
         (7, _) => small(random, count),
         (8 | 9, _) => worked(random, count),
-        _ => return built(random, count, range).jobs,
+        _ => return built(random, count, range, add_layer).jobs,
     };
     give_ids(random, &mut jobs);
     jobs
 }
 
+/// Whether the deadlines of a list are up to its periods, or some are above.
+#[derive(Clone, Copy, Debug, PartialEq, Eq)]
+pub enum Deadlines {
+    UpToPeriods,
+    AbovePeriods,
+}
+
+impl Deadlines {
+    /// A list with such deadlines.
+    fn list(
+        self,
+        random: &mut Random,
+        count: usize,
+        range: QuantumRange,
+        wanted: Option<Outcome>,
+    ) -> Vec<Job> {
+        match self {
+            Deadlines::UpToPeriods => list(random, count, range, wanted),
+            Deadlines::AbovePeriods => list_with_long_deadlines(random, count, range, wanted),
+        }
+    }
+}
+
+/// A list of one kind, most with a deadline above its period.
+fn list_with_long_deadlines(
+    random: &mut Random,
+    count: usize,
+    range: QuantumRange,
+    wanted: Option<Outcome>,
+) -> Vec<Job> {
+    let mut jobs = match (random.below(12), wanted) {
+        (0..=2, Some(Outcome::StoppedShort)) | (_, Some(Outcome::StoppedShortSharing)) => {
+            return stuck_on_top(random, count, range, add_layer_with_long_deadlines)
+        }
+        (0..=8, None | Some(Outcome::PlacedAlone)) | (0 | 1, Some(Outcome::NothingPlaced)) => {
+            let turn = random.below(TURNS_OF_RUNS);
+            return list_with_run(random, turn, count, range).jobs;
+        }
+        (2, _) => light(random, count),
+        (3, _) => heavy(random, count),
+        (4 | 7, _) => near_full(random, count),
+        (5 | 8, _) => small(random, count),
+        (6 | 9, _) => worked(random, count),
+        (10, _) => equal(random, count),
+        _ => return built(random, count, range, add_layer_with_long_deadlines).jobs,
+    };
+    jobs = with_long_deadlines(random, jobs);
+    give_ids(random, &mut jobs);
+    jobs
+}
+
+/// Whether some job that shares its level has a deadline above its period.
+pub fn shares_with_long_deadline(jobs: &[Job], settings: &[Setting]) -> bool {
+    let mut pairs = jobs.iter().zip(settings);
+    pairs.any(|(job, setting)| setting.policy == ROUND_ROBIN && job.deadline > job.period)
+}
+
+/// Whether a plan has the outcome wanted. Of a list with deadlines above periods, such a job is on
+/// a level that is wanted to be shared.
+fn fits(jobs: &[Job], plan: &Plan, wanted: Option<Outcome>, deadlines: Deadlines) -> bool {
+    let has_outcome = wanted.is_none_or(|wanted| wanted == outcome(&plan.settings));
+    if deadlines == Deadlines::UpToPeriods {
+        return has_outcome;
+    }
+    let shares =
+        largest_layer(&plan.settings) < 2 || shares_with_long_deadline(jobs, &plan.settings);
+    has_outcome && has_long_deadline(jobs) && shares
+}
+
 /// A range that is as wide as the one given, or as narrow as the list's search needs, with the
 /// plan in it.
-fn affordable(jobs: &[Job], mut range: QuantumRange) -> (QuantumRange, Plan) {
+pub fn affordable(jobs: &[Job], mut range: QuantumRange) -> (QuantumRange, Plan) {
     loop {
         match plan_jobs_within(jobs, range, MOST_LISTS) {
             Ok(plan) => return (range, plan),
@@ -125,6 +201,7 @@ pub fn planner_list(
     ordinal: usize,
     count: usize,
     fixed: Option<QuantumRange>,
+    deadlines: Deadlines,
 ) -> (Vec<Job>, QuantumRange) {
     let wanted = WANTED[ordinal % WANTED.len()];
     let mut attempts = 0;
@@ -133,7 +210,7 @@ pub fn planner_list(
         let count = shorter.max(least_jobs(wanted));
         attempts += 1;
         let drawn = fixed.unwrap_or_else(|| range(random));
-        let jobs = list(random, count, drawn, wanted);
+        let jobs = deadlines.list(random, count, drawn, wanted);
         // A list built for a wide range often stops short in a narrower one.
         let narrowed = QuantumRange {
             lowest: drawn.lowest,
@@ -145,16 +222,20 @@ pub fn planner_list(
             drawn
         };
         let (range, plan) = affordable(&jobs, tried);
-        let fits = wanted.is_none_or(|wanted| wanted == outcome(&plan.settings));
-        if fits || attempts == ATTEMPTS {
+        if fits(&jobs, &plan, wanted, deadlines) || attempts == ATTEMPTS {
             return (jobs, fixed.unwrap_or(range));
         }
     }
 }
 
 /// A list with the planner's configuration of it, in the given range or a part of it.
-pub fn any_plan(random: &mut Random, count: usize, range: QuantumRange) -> Configured {
-    let jobs = list(random, count, range, None);
+pub fn any_plan(
+    random: &mut Random,
+    count: usize,
+    range: QuantumRange,
+    deadlines: Deadlines,
+) -> Configured {
+    let jobs = deadlines.list(random, count, range, None);
     let (_, plan) = affordable(&jobs, range);
     Configured {
         jobs,

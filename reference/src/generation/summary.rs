@@ -6,6 +6,7 @@ use crate::configuration::{setting_of_record, Setting, SETTING_BYTES};
 use crate::frames::{Frame, Input, KEY, PLAN};
 use crate::generation::plans::{largest_layer, outcome, Outcome};
 use crate::generation::present::{faults_present, Fault};
+use crate::generation::run_counts::LongDeadlineCounts;
 use crate::jobs::{LONGEST_PERIOD, MOST_JOBS};
 
 /// The entries' names by their numbers.
@@ -75,6 +76,7 @@ pub struct Summary {
     /// By the refusal's number.
     pub refusals: [RefusalCounts; 13],
     pub plans: PlanCounts,
+    pub long_deadlines: LongDeadlineCounts,
 }
 
 impl Summary {
@@ -101,6 +103,7 @@ impl Summary {
         if input.entry == PLAN {
             self.plans.count(input, output);
         }
+        self.long_deadlines.count(input, output);
     }
 }
 
@@ -187,7 +190,9 @@ impl fmt::Display for Summary {
             )?;
         }
         writeln!(formatter)?;
-        self.plans.fmt(formatter)
+        self.plans.fmt(formatter)?;
+        writeln!(formatter)?;
+        self.long_deadlines.fmt(formatter)
     }
 }
 

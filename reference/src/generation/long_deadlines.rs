@@ -1,0 +1,153 @@
+//! Lists with deadlines above periods, and the means to set a job's times by the run of its
+//! instances.
+
+use crate::configuration::{QuantumRange, Setting};
+use crate::generation::layers::{add_members, Configured};
+use crate::generation::lists::stretched;
+use crate::generation::random::Random;
+use crate::jobs::{Job, LONGEST_DEADLINE, LONGEST_PERIOD};
+use crate::response_time::{
+    jobs_above, layer_demand, run_of_job, total_interference, End, Run, INSTANCES,
+};
+
+/// Whether a list has a deadline above its period.
+pub fn has_long_deadline(jobs: &[Job]) -> bool {
+    jobs.iter().any(|job| job.deadline > job.period)
+}
+
+/// A deadline above a period, unless the period is the longest: one tick more, up to twice the
+/// period, a few periods, as many as a run has instances, or the longest.
+pub fn deadline_beyond(random: &mut Random, period: u16) -> u16 {
+    let period = usize::from(period);
+    let deadline = match random.below(6) {
+        0 => period + 1,
+        1 | 2 => period + random.between(1, period),
+        3 => period * random.between(2, 5),
+        4 => period * random.between(5, INSTANCES as usize + 2),
+        _ => usize::from(LONGEST_DEADLINE),
+    };
+    deadline.min(usize::from(LONGEST_DEADLINE)) as u16
+}
+
+/// The list with a deadline above the period for one job or more: the deadline is raised, or the
+/// period is lowered, sometimes down to the cost.
+pub fn with_long_deadlines(random: &mut Random, mut jobs: Vec<Job>) -> Vec<Job> {
+    let always = random.below(jobs.len());
+    for (index, job) in jobs.iter_mut().enumerate() {
+        if index != always && random.once_in(2) {
+            continue;
+        }
+        match random.below(8) {
+            0 => job.period = job.cost,
+            1 | 2 => job.period = random.ticks(job.cost, job.deadline),
+            _ => {}
+        }
+        if job.deadline <= job.period {
+            job.deadline = deadline_beyond(random, job.period);
+        }
+    }
+    jobs
+}
+
+/// The least time from an earliest to a latest one that equals a layer's demand plus the
+/// interference, found by the usual recurrence: the demand at a time is the next time, until both
+/// are the same. No time below the earliest equals it.
+fn finish_by_recurrence(
+    layer_demand: u64,
+    above: &[Job],
+    earliest: u64,
+    latest: u64,
+) -> Option<u64> {
+    let mut time = earliest;
+    while time <= latest {
+        let next = layer_demand + total_interference(above, time);
+        if next == time {
+            return Some(time);
+        }
+        time = next;
+    }
+    None
+}
+
+/// The run of a placed job's instances with finishes by the recurrence. It serves to draw and to
+/// count cases; answers come from the search that tries every time.
+pub fn run_by_recurrence(jobs: &[Job], settings: &[Setting], index: usize) -> Run {
+    let above = jobs_above(jobs, settings, index);
+    run_of_job(
+        &jobs[index],
+        |own_work| layer_demand(settings, index, own_work),
+        |demand, earliest, latest| finish_by_recurrence(demand, &above, earliest, latest),
+    )
+}
+
+/// Whether the instance after the last one that a run may reach would close the run.
+pub fn closes_after_last(list: &Configured, index: usize) -> bool {
+    let above = jobs_above(&list.jobs, &list.settings, index);
+    let job = &list.jobs[index];
+    let own_work = (INSTANCES + 1) * u64::from(job.cost);
+    let demand = layer_demand(&list.settings, index, own_work);
+    let latest = (INSTANCES + 1) * u64::from(job.period);
+    finish_by_recurrence(demand, &above, 1, latest).is_some()
+}
+
+/// Gives a job a period and the longest deadline, and answers its run.
+pub fn set_period(list: &mut Configured, index: usize, period: u16) -> Run {
+    list.jobs[index].period = period;
+    list.jobs[index].deadline = LONGEST_DEADLINE;
+    run_by_recurrence(&list.jobs, &list.settings, index)
+}
+
+/// The least period with which a job's run closes by an instance, its deadline being the longest.
+/// With a longer period each response is smaller and no run closes later.
+pub fn least_period(list: &mut Configured, index: usize, instance: u64) -> Option<u16> {
+    let mut closes_with = |period| {
+        let run = set_period(list, index, period);
+        run.end == End::Closed && run.last_instance <= instance
+    };
+    if !closes_with(LONGEST_PERIOD) {
+        return None;
+    }
+    let (mut least, mut most) = (1, LONGEST_PERIOD);
+    while least < most {
+        let middle = least + (most - least) / 2;
+        if closes_with(middle) {
+            most = middle;
+        } else {
+            least = middle + 1;
+        }
+    }
+    Some(most)
+}
+
+/// Adds a layer below all others. Its periods are the least with which the runs close by some
+/// instance, or longer ones; its deadlines are the bounds, a little more, or above the period.
+/// False if a run does not close.
+pub fn add_layer_with_long_deadlines(
+    random: &mut Random,
+    list: &mut Configured,
+    size: usize,
+    range: QuantumRange,
+    scale: u16,
+) -> bool {
+    for index in add_members(random, list, size, range, scale)..list.jobs.len() {
+        let instance = random.choose(&[0, 0, 1, 2, 6]);
+        let Some(least) = least_period(list, index, instance) else {
+            return false;
+        };
+        // A layer's jobs with long periods would often fit alone, one below the other.
+        let period = if size > 1 && !random.once_in(3) {
+            least
+        } else {
+            stretched(random, least)
+        };
+        let bound = set_period(list, index, period).bound();
+        let slack = random.choose(&[0, 0, 0, 1, 2, bound / 8]);
+        let deadline = if random.once_in(4) {
+            deadline_beyond(random, period).max(bound)
+        } else {
+            bound.saturating_add(slack)
+        };
+        list.jobs[index].deadline = deadline.min(LONGEST_DEADLINE);
+    }
+    true
+}

@@ -1,0 +1,210 @@
+//! Lists with a configuration in which the run of one job's instances is of a wanted kind.
+
+use crate::configuration::QuantumRange;
+use crate::generation::layers::{add_members, built, reorder, skip_levels, Configured};
+use crate::generation::long_deadlines::{
+    add_layer_with_long_deadlines, closes_after_last, deadline_beyond, least_period,
+    run_by_recurrence, set_period,
+};
+use crate::generation::random::Random;
+use crate::jobs::{LONGEST_DEADLINE, LONGEST_PERIOD};
+use crate::response_time::{End, Run, INSTANCES};
+
+/// How often a list is drawn until its run is the one wanted.
+const ATTEMPTS: usize = 320;
+
+/// After so many draws the list drawn has one job less.
+const ATTEMPTS_OF_ONE_LENGTH: usize = 40;
+
+/// Scales of costs in turn, from single ticks up to costs with which the last instances finish
+/// after millions of ticks.
+const SCALES: [u16; 9] = [1, 5_000, 20, 1_000, 4, 100, 5_000, 400, 2_000];
+
+/// The last instance of a run that does not end before.
+const LAST: u64 = INSTANCES - 1;
+
+/// What the run of a job's instances is to show.
+#[derive(Clone, Copy, Debug, PartialEq, Eq)]
+pub enum Wanted {
+    /// It closes at an instance from the first number to the second.
+    Closes(u64, u64),
+    /// It closes, and its largest response is neither at the first instance nor at the last.
+    LargestInside,
+    /// A response exceeds the deadline after one that does not.
+    OverDeadlineLater,
+    /// It does not close, and one more instance would close it.
+    ClosesTooLate,
+    /// It does not close.
+    StillRunning,
+}
+
+/// The runs that lists are drawn for in turn.
+const WANTED: [Wanted; 10] = [
+    Wanted::Closes(0, 0),
+    Wanted::Closes(1, 1),
+    Wanted::OverDeadlineLater,
+    Wanted::Closes(LAST, LAST),
+    Wanted::LargestInside,
+    Wanted::ClosesTooLate,
+    Wanted::Closes(2, LAST - 1),
+    Wanted::StillRunning,
+    Wanted::Closes(2, 8),
+    Wanted::Closes(LAST, LAST),
+];
+
+impl Wanted {
+    /// Whether a run is of this kind.
+    pub fn is_shown_by(self, run: &Run) -> bool {
+        match self {
+            Wanted::Closes(first, last) => {
+                run.end == End::Closed && (first..=last).contains(&run.last_instance)
+            }
+            Wanted::LargestInside => {
+                let inside = 0 < run.largest_instance && run.largest_instance < run.last_instance;
+                run.end == End::Closed && inside
+            }
+            Wanted::OverDeadlineLater => run.end == End::OverDeadline && run.last_instance > 0,
+            Wanted::ClosesTooLate | Wanted::StillRunning => run.end == End::StillRunning,
+        }
+    }
+
+    /// An instance by which the run is to close, or would just not close.
+    fn instance(self, random: &mut Random) -> u64 {
+        let (first, last) = match self {
+            Wanted::Closes(first, last) => (first, last),
+            Wanted::LargestInside => (2, 40),
+            Wanted::OverDeadlineLater => (1, LAST),
+            Wanted::ClosesTooLate | Wanted::StillRunning => (LAST, LAST),
+        };
+        random.between(first as usize, last as usize) as u64
+    }
+
+    /// A period from the least one with which the run closes by that instance.
+    fn period(self, random: &mut Random, least: u16) -> u16 {
+        match self {
+            Wanted::Closes(0, _) => least.saturating_add(random.choose(&[0, 0, 1, 9])),
+            Wanted::Closes(..) | Wanted::LargestInside => least,
+            Wanted::OverDeadlineLater => least.saturating_sub(random.ticks(0, 1)),
+            Wanted::ClosesTooLate => least.saturating_sub(1),
+            Wanted::StillRunning => least.saturating_sub(random.ticks(1, 9)),
+        }
+    }
+
+    /// A deadline for the job whose run has this largest response under the longest deadline.
+    fn deadline(self, random: &mut Random, period: u16, largest: u16) -> u16 {
+        match self {
+            Wanted::Closes(0, _) => deadline_beyond(random, period).max(largest),
+            Wanted::OverDeadlineLater => {
+                let any = random.ticks(largest / 2, largest - 1);
+                random.choose(&[largest - 1, any])
+            }
+            _ => {
+                let any = random.ticks(largest, LONGEST_DEADLINE);
+                let longer = (largest + 1).min(LONGEST_DEADLINE);
+                random.choose(&[largest, largest, longer, any, LONGEST_DEADLINE])
+            }
+        }
+    }
+}
+
+/// Gives a job times with which its run is the wanted one; false if they do not.
+fn give_times(random: &mut Random, list: &mut Configured, index: usize, wanted: Wanted) -> bool {
+    let instance = wanted.instance(random);
+    let Some(least) = least_period(list, index, instance) else {
+        return false;
+    };
+    let cost = list.jobs[index].cost;
+    let period = wanted.period(random, least);
+    if period < cost || period > LONGEST_PERIOD {
+        return false;
+    }
+    let largest = set_period(list, index, period).largest_response as u16;
+    let deadline = wanted.deadline(random, period, largest.max(1));
+    list.jobs[index].deadline = deadline;
+    let run = run_by_recurrence(&list.jobs, &list.settings, index);
+    let would_close = wanted != Wanted::ClosesTooLate || closes_after_last(list, index);
+    deadline >= cost && would_close && wanted.is_shown_by(&run)
+}
+
+/// Adds jobs alone on levels, which take some part of the processor's time. The first of them may
+/// have a long cost and the longest period; the runs of those below it then have many instances.
+/// False if a run does not close.
+fn add_upper_jobs(
+    random: &mut Random,
+    list: &mut Configured,
+    count: usize,
+    range: QuantumRange,
+    scale: u16,
+) -> bool {
+    let most_percent = random.between(12, 95) / count.max(1);
+    let longest = usize::from(LONGEST_PERIOD);
+    for place in 0..count {
+        let index = add_members(random, list, 1, range, scale);
+        let mut period = longest;
+        if place == 0 && random.once_in(2) {
+            let cost = usize::from(scale) * random.between(1, 300);
+            list.jobs[index].cost = cost.min(longest / 2) as u16;
+        } else {
+            let percent = random.between(most_percent.div_ceil(2), most_percent);
+            period = longest.min(usize::from(list.jobs[index].cost) * 100 / percent);
+        }
+        let run = set_period(list, index, period as u16);
+        if run.end != End::Closed {
+            return false;
+        }
+        let bound = run.bound();
+        list.jobs[index].deadline = random.choose(&[bound, bound.max(period as u16)]);
+    }
+    true
+}
+
+/// A list whose lowest layer has a job with a wanted run; none if the draw does not give one.
+fn drawn(
+    random: &mut Random,
+    wanted: Wanted,
+    count: usize,
+    range: QuantumRange,
+    scale: u16,
+) -> Option<Configured> {
+    let size = random.choose(&[1, 1, 1, 2, 3]).min(count);
+    let mut list = Configured::default();
+    if !add_upper_jobs(random, &mut list, count - size, range, scale) {
+        return None;
+    }
+    let start = add_members(random, &mut list, size, range, scale);
+    for index in start..count {
+        // The other jobs of the layer have any runs that close.
+        let wanted = if index == start {
+            wanted
+        } else {
+            random.choose(&[Wanted::Closes(0, 0), Wanted::Closes(0, LAST)])
+        };
+        if !give_times(random, &mut list, index, wanted) {
+            return None;
+        }
+    }
+    Some(list)
+}
+
+/// A list of two jobs or more with a full configuration, in which the run of one job's instances is
+/// of the kind that is in turn. Long lists are seldom drawn with some of the runs, so the length
+/// falls with the attempts. If no draw gives one, it is a list built for long deadlines.
+pub fn list_with_run(
+    random: &mut Random,
+    turn: usize,
+    count: usize,
+    range: QuantumRange,
+) -> Configured {
+    let wanted = WANTED[turn % WANTED.len()];
+    let scale = SCALES[turn % SCALES.len()];
+    for attempt in 0..ATTEMPTS {
+        let count = count
+            .saturating_sub(attempt / ATTEMPTS_OF_ONE_LENGTH)
+            .max(2);
+        if let Some(mut list) = drawn(random, wanted, count, range, scale) {
+            skip_levels(random, &mut list.settings);
+            return reorder(random, list);
+        }
+    }
+    built(random, count, range, add_layer_with_long_deadlines)
+}
