@@ -1,109 +1,158 @@
--- The iteration finds the least time that equals its demand. Assumes nothing.
+-- The iteration finds the least time that equals its demand, with any estimate that no such time lies below. Assumes nothing.
 use mathlib.Core.Path.{_≡_, refl, sym, _∙_}
-use Prim.Native.Nat.{ℕ, zero, suc, _+_, _-_, _*_, _/_, _≤_, _<_, max}
+use Prim.Native.Nat.{ℕ, zero, suc, _+_, _*_, _/_, _≤_, _<_, max}
 use native.Mathlib.Decide.{decLe, ℕ-discrete}
 use native.Mathlib.Omega.{arith}
 use borrow.Author.Tests.{eq-eqb, ne-eqb, le-leb, lt-leb, lt-ltb, le-ltb}
+use Rattle.sets.specs.Sets.{Set}
+use Rattle.response.specs.declared.workload.Workload.{Workload}
 use Rattle.response.specs.Demand.{least}
-use Rattle.response.specs.Search.{whole, climb, timeFor}
-use Rattle.response.proofs.Least.{least-is, least-none}
+use Rattle.response.specs.Search.{whole, steps, climb, timeFrom, timeFor}
+use Rattle.response.proofs.Least.{Rising, least-found, least-is, least-none, covered}
 
-module _ (f : ℕ → ℕ) (d : ℕ) where
+module _ (f g : ℕ → ℕ) (d : ℕ) where
   -- ---- one step
 
-  climb-past : (n t : ℕ) → d < t → climb f d (suc n) t ≡ 0
+  climb-past : (n t : ℕ) → d < t → climb f g d (suc n) t ≡ 0
   unfolding climb
   climb-past n t h = simp (lt-leb t d h)
 
-  climb-found : (n t : ℕ) → t ≤ d → f t ≡ t → climb f d (suc n) t ≡ t
+  climb-found : (n t : ℕ) → t ≤ d → f t ≡ t → climb f g d (suc n) t ≡ t
   unfolding climb
   climb-found n t h e = simp (le-leb t d h, le-ltb t (f t) (omega arith), eq-eqb (f t) t e)
 
-  climb-falls : (n t : ℕ) → t ≤ d → f t < t → climb f d (suc n) t ≡ 0
+  climb-falls : (n t : ℕ) → t ≤ d → f t < t → climb f g d (suc n) t ≡ 0
   unfolding climb
   climb-falls n t h l = simp (le-leb t d h, le-ltb t (f t) (omega arith), ne-eqb (f t) t (λ e. omega arith))
 
-  climb-rises : (n t : ℕ) → t ≤ d → t < f t → climb f d (suc n) t ≡ climb f d n (f t)
+  climb-rises : (n t : ℕ) → t ≤ d → t < f t → climb f g d (suc n) t ≡ climb f g d n (max (f t) (g t))
   unfolding climb
   climb-rises n t h l = simp (le-leb t d h, lt-ltb t (f t) l)
 
   -- Once there are enough steps, more make no difference.
-  climb-enough : (n m t : ℕ) → d < n + t → d < m + t → climb f d n t ≡ climb f d m t
+  climb-enough : (n m t : ℕ) → d < n + t → d < m + t → climb f g d n t ≡ climb f g d m t
   unfolding climb
   climb-enough zero zero t hn hm = refl
   climb-enough zero (suc m) t hn hm = sym (climb-past m t (omega arith))
   climb-enough (suc n) zero t hn hm = climb-past n t (omega arith)
   climb-enough (suc n) (suc m) t hn hm = elim (decLe t d) [
-    | no g ↦ climb-past n t (omega arith) ∙ sym (climb-past m t (omega arith))
-    | yes g ↦ elim (decLe (f t) t) [
-      | no l ↦ climb-rises n t g (omega arith) ∙ climb-enough n m (f t) (omega arith) (omega arith) ∙ sym (climb-rises m t g (omega arith))
+    | no h ↦ climb-past n t (omega arith) ∙ sym (climb-past m t (omega arith))
+    | yes h ↦ elim (decLe (f t) t) [
+      | no l ↦
+          climb-rises n t h (omega arith) ∙ climb-enough n m (max (f t) (g t)) (omega arith) (omega arith)
+          ∙ sym (climb-rises m t h (omega arith))
       | yes l ↦ elim (ℕ-discrete (f t) t) [
-        | yes e ↦ climb-found n t g e ∙ sym (climb-found m t g e)
-        | no e ↦ climb-falls n t g (omega arith) ∙ sym (climb-falls m t g (omega arith))
+        | yes e ↦ climb-found n t h e ∙ sym (climb-found m t h e)
+        | no e ↦ climb-falls n t h (omega arith) ∙ sym (climb-falls m t h (omega arith))
       ]
     ]
   ]
 
   -- ---- the loop of the code
 
-  pub loop-past : {t : ℕ} → d < t → climb f d (suc d) t ≡ 0
+  pub loop-past : {t : ℕ} → d < t → climb f g d (suc d) t ≡ 0
   loop-past {t} h = climb-past d t h
 
-  pub loop-found : {t : ℕ} → t ≤ d → f t ≡ t → climb f d (suc d) t ≡ t
+  pub loop-found : {t : ℕ} → t ≤ d → f t ≡ t → climb f g d (suc d) t ≡ t
   loop-found {t} h e = climb-found d t h e
 
-  pub loop-falls : {t : ℕ} → t ≤ d → f t ≤ t → (f t ≡ t → ⊥) → climb f d (suc d) t ≡ 0
+  pub loop-falls : {t : ℕ} → t ≤ d → f t ≤ t → (f t ≡ t → ⊥) → climb f g d (suc d) t ≡ 0
   loop-falls {t} h l e = climb-falls d t h (omega (arith, l, e))
 
-  pub loop-rises : {t : ℕ} → t ≤ d → t < f t → climb f d (suc d) t ≡ climb f d (suc d) (f t)
-  loop-rises {t} h l = climb-rises d t h l ∙ climb-enough d (suc d) (f t) (omega arith) (omega arith)
+  pub loop-rises : {t : ℕ} → t ≤ d → t < f t → climb f g d (suc d) t ≡ climb f g d (suc d) (max (f t) (g t))
+  loop-rises {t} h l = climb-rises d t h l ∙ climb-enough d (suc d) (max (f t) (g t)) (omega arith) (omega arith)
+
+-- ---- plain steps
+
+module _ (f : ℕ → ℕ) (d : ℕ) where
+  pub steps-none : (t : ℕ) → steps f d 0 t ≡ t
+  unfolding steps
+  steps-none t = refl
+
+  pub steps-past : (n : ℕ) {t : ℕ} → d < t → steps f d n t ≡ t
+  unfolding steps
+  steps-past zero {t} h = refl
+  steps-past (suc n) {t} h = simp (lt-leb t d h)
+
+  pub steps-end : (n : ℕ) {t : ℕ} → f t ≤ t → steps f d n t ≡ t
+  unfolding steps
+  steps-end zero {t} h = refl
+  steps-end (suc n) {t} h = elim (decLe t d) [
+    | yes l ↦ simp (le-leb t d l, le-ltb t (f t) h)
+    | no l ↦ steps-past (suc n) (omega arith)
+  ]
+
+  pub steps-on : (n : ℕ) {t : ℕ} → t ≤ d → t < f t → steps f d (suc n) t ≡ steps f d n (f t)
+  unfolding steps
+  steps-on n {t} l h = simp (le-leb t d l, lt-ltb t (f t) h)
 
   -- ---- from a time below every time that equals its demand
 
   pub record Below (t : ℕ) : Type 0 where
-    pub rises : t ≤ f t
     pub least : (x : ℕ) → 1 ≤ x → x ≤ d → f x ≡ x → t ≤ x
 
   -- So is 0, and the later of two such times.
   pub below-zero : Below 0
-  below-zero = record { rises = omega arith; least = λ x h l e. omega arith }
+  below-zero = record { least = λ x h l e. omega arith }
 
   pub below-later : {t u : ℕ} → Below t → Below u → Below (max t u)
-  below-later {t} {u} a b = elim (decLe t u) [
-    | yes h ↦ let e : max t u ≡ u = omega arith in rw e b
-    | no h ↦ let e : max t u ≡ t = omega arith in rw e a
-  ]
+  below-later {t} {u} a b = record { least = λ x h l e. omega (arith, a .least x h l e, b .least x h l e) }
 
-  module _ (mono : (x y : ℕ) → x ≤ y → f x ≤ f y) where
+  module _ (R : Rising f) where
     below-next : {t : ℕ} → Below t → Below (f t)
-    below-next {t} b = record { rises = mono t (f t) (b .rises); least = λ x h l e. omega (arith, mono t x (b .least x h l e), e) }
+    below-next {t} b = record { least = λ x h l e. omega (arith, R .mono t x (b .least x h l e), e) }
 
-    climb-least : (n t : ℕ) → 1 ≤ t → d < n + t → Below t → climb f d n t ≡ least f d 1
-    unfolding climb
-    climb-least zero t p h b = sym (least-none f d 1 (λ x l g e. omega (arith, b .least x l (omega arith) e)))
-    climb-least (suc n) t p h b = elim (decLe t d) [
-      | no g ↦ climb-past n t (omega arith) ∙ sym (least-none f d 1 (λ x l k e. omega (arith, b .least x l (omega arith) e)))
-      | yes g ↦ elim (ℕ-discrete (f t) t) [
-        | yes e ↦ climb-found n t g e ∙ sym (least-is f d 1 t p (omega arith) e (λ x l k q. omega (arith, b .least x l (omega arith) q)))
-        | no e ↦ climb-rises n t g (omega (arith, b .rises)) ∙ climb-least n (f t) (omega (arith, b .rises)) (omega (arith, b .rises, e)) (below-next b)
+    -- Such a time does not exceed its demand.
+    below-rises : {t : ℕ} → 1 ≤ t → t ≤ d → Below t → t ≤ f t
+    below-rises {t} p h b = elim (decLe t (f t)) [
+      | yes l ↦ l
+      | no l ↦
+          let w = covered f R d t p h (omega arith) in
+          let v = least-found f d 1 (w .0) in
+          let e : least f d 1 ≡ t = omega (arith, w .1, b .least (least f d 1) (v .1) (omega (arith, v .2)) (v .0)) in
+          absurd (l (let q : f t ≡ t = rw e at (v .0) in omega arith))
+    ]
+
+    pub steps-below : (n : ℕ) {t : ℕ} → 1 ≤ t → Below t → (1 ≤ steps f d n t) × Below (steps f d n t)
+    steps-below zero {t} p b = rw (steps-none t) (p, b)
+    steps-below (suc n) {t} p b = elim (decLe t d) [
+      | no h ↦ rw (steps-past (suc n) {t = t} (omega arith)) (p, b)
+      | yes h ↦ elim (decLe (f t) t) [
+        | yes l ↦ rw (steps-end (suc n) l) (p, b)
+        | no l ↦ rw (steps-on n h (omega arith)) (steps-below n (omega arith) (below-next b))
       ]
     ]
 
-    pub loop-least : {t : ℕ} → 1 ≤ t → Below t → climb f d (suc d) t ≡ least f d 1
-    loop-least {t} p b = climb-least (suc d) t p (omega arith) b
+    -- With an estimate that no such time from t on lies below.
+    module _ (g : ℕ → ℕ) (low : (t x : ℕ) → t ≤ x → f x ≡ x → g t ≤ x) where
+      climb-least : (n t : ℕ) → 1 ≤ t → d < n + t → Below t → climb f g d n t ≡ least f d 1
+      unfolding climb
+      climb-least zero t p h b = sym (least-none f d 1 (λ x l k e. omega (arith, b .least x l (omega arith) e)))
+      climb-least (suc n) t p h b = elim (decLe t d) [
+        | no k ↦ climb-past f g d n t (omega arith) ∙ sym (least-none f d 1 (λ x l m e. omega (arith, b .least x l (omega arith) e)))
+        | yes k ↦ elim (ℕ-discrete (f t) t) [
+          | yes e ↦ climb-found f g d n t k e ∙ sym (least-is f d 1 t p (omega arith) e (λ x l m q. omega (arith, b .least x l (omega arith) q)))
+          | no e ↦
+              let up : t < f t = omega (arith, below-rises p k b, e) in
+              let estimated : Below (g t) = record { least = λ x l m q. low t x (b .least x l m q) q } in
+              climb-rises f g d n t k up ∙ climb-least n (max (f t) (g t)) (omega arith) (omega arith) (below-later (below-next b) estimated)
+        ]
+      ]
+
+      pub loop-least : {t : ℕ} → 1 ≤ t → Below t → climb f g d (suc d) t ≡ least f d 1
+      loop-least {t} p b = climb-least (suc d) t p (omega arith) b
 
 -- ---- how the search starts
 
-module _ (f : ℕ → ℕ) (taken own d before : ℕ) where
-  pub time-idle : own ≡ 0 → timeFor f taken own d before ≡ climb (λ t. own + f t) d (suc d) (max 1 before)
+module _ (w : Workload) (above : Set) (left own d before : ℕ) where
+  pub time-idle : own ≡ 0 → timeFor w above left own d before ≡ timeFrom w above own d (max 1 before)
   unfolding timeFor
   time-idle e = rw (eq-eqb own 0 e)
 
-  pub time-full : (own ≡ 0 → ⊥) → whole ≤ taken → timeFor f taken own d before ≡ 0
+  pub time-full : (own ≡ 0 → ⊥) → left ≡ 0 → timeFor w above left own d before ≡ 0
   unfolding timeFor
-  time-full e h = rw (ne-eqb own 0 e, le-leb whole taken h)
+  time-full e h = rw (ne-eqb own 0 e, eq-eqb left 0 h)
 
-  pub time-start : (own ≡ 0 → ⊥) → taken < whole
-      → timeFor f taken own d before ≡ climb (λ t. own + f t) d (suc d) (max (own * whole / (whole - taken)) before)
+  pub time-start : (own ≡ 0 → ⊥) → (left ≡ 0 → ⊥) → timeFor w above left own d before ≡ timeFrom w above own d (max (own * whole / left) before)
   unfolding timeFor
-  time-start e h = rw (ne-eqb own 0 e, lt-leb whole taken h)
+  time-start e h = rw (ne-eqb own 0 e, ne-eqb left 0 h)

@@ -57,5 +57,5 @@ unfolding ceilDiv
 ceil-lt x y hx hy = omega (arith, div-le-self (x + (y - 1)) y)
 
 -- The product of a quotient and a 16-bit number.
-pub product-lt : (x y : ℕ) → x < 2 ^ 32 → y < 2 ^ 16 → x * y < 2 ^ 48
-product-lt x y hx hy = let m : x * y ≤ 4294967295 * 65535 = mul-le-mul {n₂ = 4294967295} {m₂ = 65535} (omega arith) (omega arith) in omega arith
+pub product-lt : (x y : ℕ) → x < 2 ^ 23 → y < 2 ^ 16 → x * y < 2 ^ 39
+product-lt x y hx hy = let m : x * y ≤ 8388607 * 65535 = mul-le-mul {n₂ = 8388607} {m₂ = 65535} (omega arith) (omega arith) in omega arith

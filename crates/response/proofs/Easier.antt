@@ -13,7 +13,7 @@ use lib.Seq.{getD-take, length-take-le}
 use borrow.Author.Tests.{eqb-false, not-true}
 use Rattle.sets.specs.Sets.{Set, Sub, Alone}
 use Rattle.sets.specs.Places.{sumOver}
-use Rattle.sets.proofs.Places.{over-mono, over-same, over-zero, over-cut}
+use Rattle.sets.proofs.Places.{over-mono, over-same, over-zero, over-cut, over-split}
 use Rattle.records.specs.Jobs.{blankJob, jobAt}
 use Rattle.records.specs.declared.job.Job.{Job}
 use Rattle.response.specs.Demand.{ceilDiv, work, interference, otherQuanta, layerShare, demand, least, oneInstanceBound, finish, Reached, none, larger, responseOf, run, mostInstances, largestResponse, bound}
@@ -28,7 +28,13 @@ unfolding interference work
 interference-mono jobs a b t u s h =
     over-mono (length jobs) a b _ _ s (λ i l e. mul-le-mul-right (jobAt jobs i .cost) (ceil-mono t u (jobAt jobs i .period) h))
 
-interference-same : (jobs : List Job) (a b : Set) (t : ℕ) → ((i : ℕ) → i < length jobs → a i ≡ b i) → interference jobs a t ≡ interference jobs b t
+-- The jobs of a set that pass a test, and the others.
+pub interference-split : (jobs : List Job) (a test : Set) (t : ℕ)
+    → interference jobs a t ≡ interference jobs (λ i. a i && not (test i)) t + interference jobs (λ i. a i && test i) t
+unfolding interference
+interference-split jobs a test t = over-split (length jobs) a test _
+
+pub interference-same : (jobs : List Job) (a b : Set) (t : ℕ) → ((i : ℕ) → i < length jobs → a i ≡ b i) → interference jobs a t ≡ interference jobs b t
 unfolding interference
 interference-same jobs a b t h = over-same (length jobs) a b _ _ h (λ i l e. refl)
 

@@ -51,6 +51,15 @@ run-sooner f g period h (suc n) j a b p r = elim (ℕ-discrete (f j) 0) [
       ]
 ]
 
+-- No instance finishes by its next release: the run does not close.
+pub run-never : (f : ℕ → ℕ) (period : ℕ) → ((j : ℕ) → 0 < f j → suc j * period < f j) → (n j : ℕ) (b : Reached) → run f period n j b .response ≡ 0
+unfolding run
+run-never f period h zero j b = refl
+run-never f period h (suc n) j b = elim (ℕ-discrete (f j) 0) [
+  | yes z ↦ ap (λ (r : Reached). r .response) (run-none f period n j b z)
+  | no z ↦ ap (λ (r : Reached). r .response) (run-open f period n j b z (h j (omega arith))) ∙ run-never f period h n (suc j) _
+]
+
 -- ---- as it is found
 
 module _ (found : ℕ → ℕ → ℕ) (period : ℕ) where

@@ -1,13 +1,16 @@
 -- The utilisation above bounds every time that equals its demand from below: where the iteration may start; so what the code finds is
 -- the bound. Assumes nothing.
 use mathlib.Core.Path.{_≡_, refl, sym, _∙_, ap}
+use mathlib.Core.Bool.{Bool, true, false, cond, and-false}
 use mathlib.Core.List.{List}
 use mathlib.Core.Logic.{⊎-elim}
-use Prim.Native.Nat.{ℕ, zero, suc, _+_, _-_, _*_, _/_, _≤_, _<_, min, max}
-use native.Mathlib.Nat.{le-refl, le-trans, mul-le-mul, mul-le-mul-left, mul-le-mul-right, div-mul-le-self, div-zero, div-lt-iff-lt-mul, le-div-iff-mul-le, mul-add, add-mul, mul-comm, mul-assoc, eq-zero-or-pos}
+use Prim.Native.Nat.{ℕ, suc, _+_, _-_, _*_, _/_, _≤_, _<_, min, max}
+use native.Mathlib.Nat.{le-refl, le-trans, mul-le-mul, mul-le-mul-left, mul-le-mul-right, mul-lt-mul-of-pos-left, div-mul-le-self, div-zero, div-lt-iff-lt-mul, le-div-iff-mul-le, mul-add, add-mul, mul-comm, mul-assoc, eq-zero-or-pos}
 use native.Mathlib.Decide.{decLe, ℕ-discrete}
 use native.Mathlib.Omega.{arith}
+use lib.Dec.{leb}
 use lib.ListN.{length, getD, List·getD-eq-default}
+use borrow.Author.Tests.{lt-ltb, le-ltb}
 use Rattle.sets.specs.Places.{sumOver, listOf}
 use Rattle.sets.specs.Sets.{Set}
 use Rattle.sets.proofs.Places.{over-same, over-mono, over-scale, list-length, list-at}
@@ -15,12 +18,12 @@ use Rattle.records.specs.Jobs.{blankJob, jobAt}
 use Rattle.records.specs.declared.job.Job.{Job}
 use Rattle.response.specs.declared.workload.Workload.{Workload}
 use Rattle.response.specs.Demand.{ceilDiv, work, interference, otherQuanta, layerShare, demand, least, finish, none, mostInstances, largestResponse, bound}
-use Rattle.response.specs.Search.{whole, utilisation, workload, load, climb, timeFor, ownDemand, finishBy, boundBy}
+use Rattle.response.specs.Search.{whole, utilisation, workload, load, free, steps, shortOf, longOf, estimate, shortPart, plainSteps, farTime, timeFrom, timeFor, ownDemand, finishBy, largestBy, runsOn, boundBy}
 use Rattle.response.proofs.Division.{ceil-covers, ceil-one, ceil-mono, ceil-le}
 use Rattle.response.proofs.Least.{Rising, least-found, least-none, covered}
-use Rattle.response.proofs.Runs.{run-found, turn-none}
-use Rattle.response.proofs.Easier.{interference-mono}
-use Rattle.response.proofs.Climbing.{Below, below-zero, below-later, loop-least, loop-falls, loop-past, time-idle, time-full, time-start}
+use Rattle.response.proofs.Runs.{run-found, run-never, turn-none}
+use Rattle.response.proofs.Easier.{interference-mono, interference-split}
+use Rattle.response.proofs.Climbing.{Below, below-zero, below-later, steps-past, steps-end, steps-below, loop-least, loop-falls, loop-past, time-idle, time-full, time-start}
 
 -- Within t a job adds at least its utilisation of t.
 covers : (job : Job) (t : ℕ) → t * utilisation job ≤ work job t * whole
@@ -61,140 +64,274 @@ interference-one jobs a t =
     over-mono n a a _ _ (λ i l x. x) (λ i l x. omega (arith, mul-le-mul-right (jobAt jobs i .cost) (ceil-one t (jobAt jobs i .period)), mul-assoc t (ceilDiv 1 (jobAt jobs i .period)) (jobAt jobs i .cost))) in
     omega (arith, over-scale n t a w)
 
--- ---- the start of the iteration
+-- ---- one finish
+
+-- A quotient is at most x if x times the divisor covers what is divided.
+within : (p m x : ℕ) → 0 < m → p ≤ x * m → p / m ≤ x
+within p m x h l = let d : p / m < x + 1 = div-lt-iff-lt-mul h .1 (omega (arith, add-mul x 1 m)) in omega arith
 
 module _ (jobs : List Job) (a : Set) (own d : ℕ) where
   abbrev f : ℕ → ℕ
   f t = own + interference jobs a t
 
-  abbrev taken : ℕ
-  taken = load (sharesOf jobs) a
+  abbrev w : Workload
+  w = workload jobs
+
+  abbrev left : ℕ
+  left = free (sharesOf jobs) a
 
   mono : (x y : ℕ) → x ≤ y → f x ≤ f y
   mono x y h = omega (arith, interference-mono jobs a a x y (λ i l e. e) h)
 
-  -- The set above takes the whole processor: no time equals its demand, if there is own work.
-  full-none : 0 < own → whole ≤ taken → least f d 1 ≡ 0
-  full-none p h = least-none f d 1 (λ x g l e. omega (arith, load-covered jobs a x, mul-le-mul-left x h))
+  rising : 0 < f 1 → Rising f
+  rising p = record { pos = λ t h. omega (arith, p, mono 1 t h); mono = mono }
 
-  -- Else none is below own / (1 - taken).
-  starts : 0 < own → taken < whole → (1 ≤ own * whole / (whole - taken)) × Below f d (own * whole / (whole - taken))
-  starts p h = (omega (arith, low), record { rises = rises; least = λ x g l q. below x q })
-    where
-      t : ℕ
-      t = own * whole / (whole - taken)
-
-      free : 0 < whole - taken
-      free = omega arith
-
-      split : (x : ℕ) → x * (whole - taken) + x * taken ≡ x * whole
-      split x = sym (mul-add x (whole - taken) taken) ∙ ap (λ (y : ℕ). x * y) (omega arith)
-
-      low : own ≤ t
-      low = le-div-iff-mul-le free .1 (omega (arith, split own))
-
-      rises : t ≤ own + interference jobs a t
-      rises = omega (arith, div-mul-le-self (own * whole) (whole - taken), split t, load-covered jobs a t)
-
-      below : (x : ℕ) → own + interference jobs a x ≡ x → t ≤ x
-      below x q =
-          let w : own * whole / (whole - taken) < x + 1 = div-lt-iff-lt-mul free .1 (omega (arith, split x, load-covered jobs a x, add-mul x 1 (whole - taken))) in
-          omega arith
-
-  -- Without own demand the iteration may start at 1.
-  idle : own ≡ 0 → (before : ℕ) → Below f d before → climb f d (suc d) (max 1 before) ≡ least f d 1
-  idle z before b = elim (decLe 1 (interference jobs a 1)) [
-    | yes h ↦ loop-least f d mono (omega arith) (below-later f d (record { rises = omega arith; least = λ x g l q. g }) b)
-    | no h ↦
-        let none : (x : ℕ) → f x ≡ 0 = λ x. omega (arith, interference-one jobs a x, mul-le-mul-left {m = interference jobs a 1} {n = 0} x (omega arith)) in
-        let first : max 1 before ≡ 1 = omega (arith, b .rises, none before) in
-        rw first (zero none) ∙ sym (least-none f d 1 (λ x g l q. omega (arith, none x)))
-  ]
-    where
-      zero : ((x : ℕ) → f x ≡ 0) → climb f d (suc d) 1 ≡ 0
-      zero none = elim (decLe 1 d) [
-        | yes g ↦ loop-falls f d g (omega (arith, none 1)) (λ e. omega (arith, none 1))
-        | no g ↦ loop-past f d (omega arith)
+  -- A time that equals its demand, in parts of what a set with some of the interference leaves.
+  leaves : (s : Set) (rest x : ℕ) → x ≡ rest + interference jobs s x → rest * whole ≤ x * free (sharesOf jobs) s
+  unfolding free
+  leaves s rest x e =
+      let taken = load (sharesOf jobs) s in
+      elim (decLe whole taken) [
+        | yes h ↦ omega (arith, load-covered jobs s x, mul-le-mul-left x h, e)
+        | no h ↦
+            let split : x * (whole - taken) + x * taken ≡ x * whole = sym (mul-add x (whole - taken) taken) ∙ ap (λ (y : ℕ). x * y) (omega arith) in
+            omega (arith, load-covered jobs s x, split, e)
       ]
 
-  pub time-least : (before : ℕ) → Below f d before → timeFor (interference jobs a) taken own d before ≡ least f d 1
+  -- Nothing is left: no time equals its demand, if there is own demand.
+  full-none : 0 < own → left ≡ 0 → least f d 1 ≡ 0
+  full-none p h = least-none f d 1 (λ x g l e. omega (arith, leaves a own x (sym e), ap (λ (y : ℕ). x * y) h))
+
+  -- Else none is below own / left.
+  starts : 0 < own → 0 < left → (1 ≤ own * whole / left) × Below f d (own * whole / left)
+  unfolding free
+  starts p h = (omega (arith, low), record { least = λ x g l q. within (own * whole) left x h (leaves a own x (sym q)) })
+    where
+      low : own ≤ own * whole / left
+      low = le-div-iff-mul-le h .1 (mul-le-mul-left own (omega arith))
+
+  -- No time from t on that equals its demand lies below the estimate.
+  estimated : (longest t x : ℕ) → t ≤ x → f x ≡ x → estimate w a longest own t ≤ x
+  unfolding estimate
+  estimated longest t x h e =
+      let short = shortOf jobs a longest in
+      let long = longOf jobs a longest in
+      let at = own + interference jobs long t in
+      let apart : interference jobs a x ≡ interference jobs long x + interference jobs short x = interference-split jobs a (λ i. leb (jobAt jobs i .period) longest) x in
+      let m : at * whole ≤ x * free (sharesOf jobs) short =
+      le-trans (mul-le-mul-right whole (omega (arith, interference-mono jobs long long t x (λ i l q. q) h)))
+      (leaves short (own + interference jobs long x) x (omega (arith, apart, e))) in
+      within (at * whole) (max 1 (free (sharesOf jobs) short)) x (omega arith) (le-trans m (mul-le-mul-left x (omega arith)))
+
+  -- The search from a time that no such time is below.
+  far : 0 < f 1 → {t : ℕ} → 1 ≤ t → Below f d t → timeFrom w a own d t ≡ least f d 1
+  unfolding timeFrom farTime
+  far p {t} h b =
+      let R = rising p in
+      let s = steps-below f d R plainSteps h b in
+      loop-least f d R (estimate w a (steps f d plainSteps t / shortPart) own) (estimated (steps f d plainSteps t / shortPart)) (s .0) (s .1)
+
+  -- Without any demand there is none.
+  idle : ((x : ℕ) → f x ≡ 0) → (t : ℕ) → 1 ≤ t → timeFrom w a own d t ≡ 0
+  unfolding timeFrom farTime
+  idle none t h =
+      let e : steps f d plainSteps t ≡ t = steps-end f d plainSteps (omega (arith, none t)) in
+      rw e (elim (decLe t d) [
+        | yes g ↦ loop-falls f _ d g (omega (arith, none t)) (λ q. omega (arith, none t))
+        | no g ↦ loop-past f _ d (omega arith)
+      ])
+
+  pub time-least : (before : ℕ) → Below f d before → timeFor w a left own d before ≡ least f d 1
   time-least before b = elim (ℕ-discrete own 0) [
-    | yes e ↦ time-idle (interference jobs a) taken own d before e ∙ idle e before b
-    | no e ↦ elim (decLe whole taken) [
-      | yes h ↦ time-full (interference jobs a) taken own d before e h ∙ sym (full-none (omega arith) h)
+    | yes e ↦ time-idle w a left own d before e ∙ elim (decLe 1 (interference jobs a 1)) [
+      | yes h ↦ far (omega arith) (omega arith) (below-later f d (record { least = λ x g l q. g }) b)
       | no h ↦
-          let w = starts (omega arith) (omega arith) in
-          time-start (interference jobs a) taken own d before e (omega arith) ∙ loop-least f d mono (omega (arith, w .0)) (below-later f d (w .1) b)
+          let none : (x : ℕ) → f x ≡ 0 = λ x. omega (arith, interference-one jobs a x, mul-le-mul-left {m = interference jobs a 1} {n = 0} x (omega arith)) in
+          idle none (max 1 before) (omega arith) ∙ sym (least-none f d 1 (λ x g l q. omega (arith, none x)))
+    ]
+    | no e ↦ elim (ℕ-discrete left 0) [
+      | yes h ↦ time-full w a left own d before e h ∙ sym (full-none (omega arith) h)
+      | no h ↦
+          let v = starts (omega arith) (omega arith) in
+          time-start w a left own d before e h ∙ far (omega arith) (omega (arith, v .0)) (below-later f d (v .1) b)
     ]
   ]
 
-  -- ---- the iteration of a later instance starts at the finish of the one before
+  -- ---- the search of a later instance starts at the finish of the one before
 
-  -- A demand that some time equals is 0 at no time from 1 on.
-  demands : 0 < least f d 1 → Rising f
-  demands p = record { pos = λ t h. omega (arith, first, mono 1 t h); mono = mono }
-    where
-      x : ℕ
-      x = least f d 1
-
-      first : 0 < f 1
-      first = elim (decLe 1 (interference jobs a 1)) [
+  -- A demand that some time equals is not 0 at time 1.
+  demands : 0 < least f d 1 → 0 < f 1
+  demands p =
+      let x = least f d 1 in
+      elim (decLe 1 (interference jobs a 1)) [
         | yes h ↦ omega arith
         | no h ↦ omega (arith, least-found f d 1 p .0, interference-one jobs a x, mul-le-mul-left {m = interference jobs a 1} {n = 0} x (omega arith))
       ]
 
   -- No time that equals a larger own demand is below it.
   pub starts-later : (own′ d′ : ℕ) → own ≤ own′ → 0 < least f d 1 → Below (λ t. own′ + interference jobs a t) d′ (least f d 1)
-  starts-later own′ d′ h p = record { rises = omega (arith, w .0); least = below }
+  starts-later own′ d′ h p = record { least = below }
     where
-      w : (f (least f d 1) ≡ least f d 1) × (1 ≤ least f d 1) × (least f d 1 < 1 + d)
-      w = least-found f d 1 p
+      v : (f (least f d 1) ≡ least f d 1) × (1 ≤ least f d 1) × (least f d 1 < 1 + d)
+      v = least-found f d 1 p
 
       below : (x : ℕ) → 1 ≤ x → x ≤ d′ → own′ + interference jobs a x ≡ x → least f d 1 ≤ x
       below x g l e = elim (decLe x d) [
-        | yes r ↦ covered f (demands p) d x g r (omega arith) .1
-        | no r ↦ omega (arith, w .2)
+        | yes r ↦ covered f (rising (demands p)) d x g r (omega arith) .1
+        | no r ↦ omega (arith, v .2)
       ]
+
+-- No time is sought past the limit.
+past-none : (w : Workload) (a : Set) (own : ℕ) {d t : ℕ} → d < t → timeFrom w a own d t ≡ 0
+unfolding timeFrom farTime
+past-none w a own {d} {t} h = rw (steps-past _ d plainSteps {t = t} h) (loop-past _ _ d h)
+
+-- ---- the run of instances
+
+-- The own demand of the work of n instances, with c cycles, in parts of a quantum.
+own-covers : (n cost quantum others c : ℕ) → n * cost ≤ c * quantum → n * (cost * (quantum + others)) ≤ quantum * (n * cost + c * others)
+own-covers n cost quantum others c h =
+    let x = n * cost in
+    let share : quantum * (c * others) ≡ c * quantum * others = sym (mul-assoc quantum c others) ∙ ap (λ (y : ℕ). y * others) (mul-comm quantum c) in
+    omega (
+      arith,
+      share,
+      sym (mul-assoc n cost (quantum + others)),
+      mul-add x quantum others,
+      mul-add quantum x (c * others),
+      mul-comm quantum x,
+      mul-le-mul-right others h,
+    )
+
+-- n periods do not hold the demand of n instances, if one period does not hold that of one.
+exceeds : (n period quantum left cost rate total own x : ℕ) → 0 < n → period * quantum * left < cost * rate * total
+    → n * (cost * rate) ≤ quantum * own → own * total ≤ x * left → x ≤ n * period → ⊥
+exceeds n period quantum left cost rate total own x pn h hc hl hx =
+    let e1 : quantum * (n * period * left) ≡ n * (period * quantum * left) =
+    sym (mul-assoc quantum (n * period) left) ∙ ap (λ (y : ℕ). y * left) (mul-comm quantum (n * period) ∙ mul-assoc n period quantum)
+    ∙ mul-assoc n (period * quantum) left in
+    let e2 : n * (cost * rate * total) ≡ n * (cost * rate) * total = sym (mul-assoc n (cost * rate) total) in
+    let e3 : quantum * own * total ≡ quantum * (own * total) = mul-assoc quantum own total in
+    let m1 : n * (period * quantum * left) < n * (cost * rate * total) = mul-lt-mul-of-pos-left h pn in
+    let m2 : n * (cost * rate) * total ≤ quantum * own * total = mul-le-mul-right total hc in
+    let m3 : quantum * (own * total) ≤ quantum * (x * left) = mul-le-mul-left quantum hl in
+    let m4 : quantum * (x * left) ≤ quantum * (n * period * left) = mul-le-mul-left quantum (mul-le-mul-right left hx) in
+    omega arith
+
+module _ (jobs : List Job) (q : List ℕ) (s a : Set) (k : ℕ) where
+  abbrev job : Job
+  job = jobAt jobs k
+
+  abbrev quantum : ℕ
+  quantum = getD q k 0
+
+  abbrev others : ℕ
+  others = otherQuanta (length jobs) q s k
+
+  abbrev own : ℕ → ℕ
+  own j = ownDemand quantum others (suc j * job .cost)
+
+  abbrev limit : ℕ → ℕ
+  limit j = j * job .period + job .deadline
+
+  finish-is : (j : ℕ) → finish jobs q s a k j ≡ least (λ t. own j + interference jobs a t) (limit j) 1
+  unfolding finish demand layerShare ownDemand
+  finish-is j = refl
+
+  -- More own work has no smaller own demand.
+  own-mono : (j : ℕ) → own j ≤ own (suc j)
+  unfolding ownDemand
+  own-mono j =
+      let more : suc j * job .cost ≤ suc (suc j) * job .cost = mul-le-mul-right (job .cost) (omega arith) in
+      omega (arith, more, mul-le-mul-right others (ceil-mono (suc j * job .cost) (suc (suc j) * job .cost) quantum more))
+
+  pub largest-found : largestBy (workload jobs) a (free (sharesOf jobs) a) quantum others job ≡ bound jobs q s a k
+  unfolding bound largestResponse finishBy
+  largest-found =
+      run-found (finishBy (workload jobs) a (free (sharesOf jobs) a) quantum others (job .cost) (job .period) (job .deadline)) (job .period) (finish jobs q s a k)
+      (λ j b. Below (λ t. own j + interference jobs a t) (limit j) b)
+      (λ j b g. time-least jobs a (own j) (limit j) b g ∙ sym (finish-is j))
+      (λ j p. rw (finish-is j) (starts-later jobs a (own j) (limit j) (own (suc j)) (limit (suc j)) (own-mono j) (rw (finish-is j) at p)))
+      mostInstances 0 0 none (below-zero _ _)
+
+  -- A layer that asks for more than is left: each instance that finishes does so past its next release.
+  runs-past : 0 < quantum → job .period * quantum * free (sharesOf jobs) a < job .cost * (quantum + others) * whole
+      → (j : ℕ) → 0 < finish jobs q s a k j → suc j * job .period < finish jobs q s a k j
+  unfolding ownDemand
+  runs-past p h j b =
+      let x = least (λ t. own j + interference jobs a t) (limit j) 1 in
+      let v = least-found (λ t. own j + interference jobs a t) (limit j) 1 (rw (finish-is j) at b) in
+      let n = suc j in
+      let c = ceilDiv (n * job .cost) quantum in
+      rw (finish-is j) (elim (decLe x (n * job .period)) [
+        | no g ↦ omega arith
+        | yes g ↦
+            absurd (exceeds n (job .period) quantum (free (sharesOf jobs) a) (job .cost) (quantum + others) whole (own j) x (omega arith) h
+            (own-covers n (job .cost) quantum others c (ceil-covers (n * job .cost) quantum p)) (leaves jobs a (own j) 0 a (own j) x (sym (v .0))) g)
+      ])
+
+  -- So it has no bound.
+  never : 0 < quantum → job .period * quantum * free (sharesOf jobs) a < job .cost * (quantum + others) * whole → bound jobs q s a k ≡ 0
+  unfolding bound largestResponse
+  never p h = run-never (finish jobs q s a k) (job .period) (runs-past p h) mostInstances 0 none
 
 -- ---- what the code finds is the bound
 
--- More own work has no smaller own demand.
-own-mono : (quantum others x y : ℕ) → x ≤ y → ownDemand quantum others x ≤ ownDemand quantum others y
-unfolding ownDemand
-own-mono quantum others x y h = omega (arith, mul-le-mul-right others (ceil-mono x y quantum h))
+module _ (left quantum others : ℕ) (job : Job) where
+  pub runs-idle : quantum ≡ 0 → runsOn left quantum others job ≡ false
+  unfolding runsOn
+  runs-idle e = simp (le-ltb 0 quantum (omega arith))
+
+  pub runs-held : job .cost * (quantum + others) * whole ≤ job .period * quantum * left → runsOn left quantum others job ≡ false
+  unfolding runsOn
+  runs-held h = simp (le-ltb (job .period * quantum * left) (job .cost * (quantum + others) * whole) h, and-false)
+
+  pub runs-over : 0 < quantum → job .period * quantum * left < job .cost * (quantum + others) * whole → runsOn left quantum others job ≡ true
+  unfolding runsOn
+  runs-over p h = simp (lt-ltb 0 quantum p, lt-ltb (job .period * quantum * left) (job .cost * (quantum + others) * whole) h)
+
+module _ (w : Workload) (q : List ℕ) (s a : Set) (k : ℕ) where
+  abbrev on : Bool
+  on = runsOn (free (w .shares) a) (getD q k 0) (otherQuanta (length (w .jobs)) q s k) (jobAt (w .jobs) k)
+
+  abbrev found : ℕ
+  found = largestBy w a (free (w .shares) a) (getD q k 0) (otherQuanta (length (w .jobs)) q s k) (jobAt (w .jobs) k)
+
+  pub bound-stops : on ≡ true → boundBy w q s a k ≡ 0
+  unfolding boundBy
+  bound-stops e = ap (λ (b : Bool). cond b 0 found) e
+
+  pub bound-runs : on ≡ false → boundBy w q s a k ≡ found
+  unfolding boundBy
+  bound-runs e = ap (λ (b : Bool). cond b 0 found) e
+
+  -- A place past the table has no job, and no bound.
+  pub by-past : length (w .jobs) ≤ k → boundBy w q s a k ≡ 0
+  unfolding boundBy finishBy ownDemand
+  by-past l = either on (rw blank (turn-none _ 0 mostInstances 0 0 0 (omega arith) never-found))
+    where
+      blank : jobAt (w .jobs) k ≡ blankJob
+      blank = List·getD-eq-default (w .jobs) blankJob l
+
+      either : (b : Bool) {x : ℕ} → x ≡ 0 → cond b 0 x ≡ 0
+      either true e = refl
+      either false e = e
+
+      never-found : finishBy w a (free (w .shares) a) (getD q k 0) (otherQuanta (length (w .jobs)) q s k) 0 0 0 0 0 ≡ 0
+      never-found =
+          let cycles : ceilDiv 0 (getD q k 0) ≡ 0 = let h = ceil-le 0 (getD q k 0) in omega arith in
+          rw cycles (time-idle w a _ _ 0 0 (omega arith) ∙ past-none w a _ (omega arith))
 
 pub bound-found : (jobs : List Job) (q : List ℕ) (s a : Set) (k : ℕ) → boundBy (workload jobs) q s a k ≡ bound jobs q s a k
-unfolding boundBy bound largestResponse finish demand layerShare ownDemand finishBy
 bound-found jobs q s a k =
-    run-found (finishBy (interference jobs a) (load (sharesOf jobs) a) quantum others (job .cost) (job .period) (job .deadline)) (job .period) (finish jobs q s a k)
-    (λ j b. Below (λ t. own j + interference jobs a t) (limit j) b)
-    (λ j b g. time-least jobs a (own j) (limit j) b g)
-    (λ j p. starts-later jobs a (own j) (limit j) (own (suc j)) (limit (suc j)) (own-mono quantum others _ _ (mul-le-mul-right (job .cost) (omega arith))) p)
-    mostInstances 0 0 none (below-zero _ _)
-  where
-    job : Job
-    job = jobAt jobs k
-
-    quantum : ℕ
-    quantum = getD q k 0
-
-    others : ℕ
-    others = otherQuanta (length jobs) q s k
-
-    own : ℕ → ℕ
-    own j = ownDemand quantum others (suc j * job .cost)
-
-    limit : ℕ → ℕ
-    limit j = j * job .period + job .deadline
-
--- A place past the table has no job, and no bound.
-pub by-past : (w : Workload) (quanta : List ℕ) (layer above : Set) (k : ℕ) → length (w .jobs) ≤ k → boundBy w quanta layer above k ≡ 0
-unfolding boundBy finishBy ownDemand
-by-past w quanta layer above k l =
-    let blank : jobAt (w .jobs) k ≡ blankJob = List·getD-eq-default (w .jobs) blankJob l in
-    rw blank (turn-none _ 0 mostInstances 0 0 0 (omega arith) (never _ _ (getD quanta k 0) (otherQuanta (length (w .jobs)) quanta layer k)))
-  where
-    never : (f : ℕ → ℕ) (taken quantum others : ℕ) → finishBy f taken quantum others 0 0 0 0 0 ≡ 0
-    never f taken quantum others =
-        let cycles : ceilDiv 0 quantum ≡ 0 = let h = ceil-le 0 quantum in omega arith in
-        rw cycles (time-idle f taken _ 0 0 (omega arith) ∙ loop-past _ 0 (omega arith))
+    let w = workload jobs in
+    let n = getD q k 0 in
+    let o = otherQuanta (length jobs) q s k in
+    let job = jobAt jobs k in
+    elim (decLe 1 n) [
+      | no h ↦ bound-runs w q s a k (runs-idle _ n o job (omega arith)) ∙ largest-found jobs q s a k
+      | yes h ↦ elim (decLe (job .cost * (n + o) * whole) (job .period * n * free (sharesOf jobs) a)) [
+        | yes l ↦ bound-runs w q s a k (runs-held _ n o job l) ∙ largest-found jobs q s a k
+        | no l ↦ bound-stops w q s a k (runs-over _ n o job h (omega arith)) ∙ sym (never jobs q s a k h (omega arith))
+      ]
+    ]

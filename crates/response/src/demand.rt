@@ -19,16 +19,16 @@ pub(crate) fn ceil_div(a: u32, b: u32) -> u32
 
 // The work that a job adds within t ticks.
 fn work(job: Job, t: u32) -> u64
-    requires { ⌜ t < 2 ^ 31 ⌝ }
-    ensures { λ r. ⌜ (r ≡ work job t) × (r < 2 ^ 48) ⌝ }
+    requires { ⌜ t < 2 ^ 23 ⌝ }
+    ensures { λ r. ⌜ (r ≡ work job t) × (r < 2 ^ 39) ⌝ }
 {
     (ceil_div(t, job.period as u32) as u64) * (job.cost as u64)
 }
 
 // The work of the jobs of the set above within t ticks.
 pub(crate) fn interference(jobs: [Job; Job::MOST], above: u8, t: u32) -> u64
-    requires { ⌜ t < 2 ^ 31 ⌝ }
-    ensures { λ r. ⌜ (r ≡ interference jobs (has above) t) × (r ≤ 2 ^ 51) ⌝ }
+    requires { ⌜ t < 2 ^ 23 ⌝ }
+    ensures { λ r. ⌜ (r ≡ interference jobs (has above) t) × (r ≤ 2 ^ 42) ⌝ }
 {
     let mut sum: u64 = 0;
     let mut i = 0;

@@ -6,6 +6,8 @@ use records::job::Job;
 use workload::Workload;
 
 mod demand;
+mod instances;
+mod search;
 pub mod workload;
 
 // The bound of the job at a place of a table: the largest response of its instances up to the first that finishes by the next release, or

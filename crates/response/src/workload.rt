@@ -1,17 +1,14 @@
-// The jobs of a table with the utilisation of each, and the search for a bound over the instances of a job.
+// The jobs of a table with the utilisation of each, and the bound of a job.
 ghost use mathlib.Core.Path.{_≡_};
-ghost use Prim.Native.Nat.{_+_, _*_, _^_, _<_, _≤_};
+ghost use Prim.Native.Nat.{_^_, _≤_};
 ghost use Rattle.sets.specs.Sets.{has};
-ghost use Rattle.response.specs.Demand.{interference};
-ghost use Rattle.response.specs.Search.{whole, utilisation, workload, load, timeFor, ownDemand, largestBy, boundBy};
+ghost use Rattle.response.specs.Search.{whole, utilisation, workload, load, free, boundBy};
 use crate::demand;
+use crate::instances;
 use records::job::Job;
 
 // The whole processor, in the parts by which utilisation is counted.
-const WHOLE: u64 = 1048576;
-
-// The most instances that a bound goes over.
-const INSTANCES: u32 = 64;
+pub(crate) const WHOLE: u64 = 1048576;
 
 pub struct Workload {
     pub jobs: [Job; Job::MOST],
@@ -48,83 +45,15 @@ fn load(shares: [u32; Job::MOST], set: u8) -> u64
     sum
 }
 
-// The least time up to a limit that equals the own demand with the interference of the set above, or 0; no such time is below `before`.
-fn time_for(jobs: [Job; Job::MOST], above: u8, taken: u64, own: u64, limit: u32, before: u32) -> u32
-    requires { ⌜ (own < 2 ^ 40) × (limit < 2 ^ 31) ⌝ }
-    ensures { λ r. ⌜ (r ≡ timeFor (interference jobs (has above)) taken own limit before) × (r ≤ limit) × ((r ≡ 0 → ⊥) → before ≤ r) ⌝ }
+// What a set of jobs leaves of the processor.
+pub(crate) fn free(shares: [u32; Job::MOST], set: u8) -> u64
+    ensures { λ r. ⌜ (r ≡ free shares (has set)) × (r ≤ whole) ⌝ }
 {
-    let mut t: u64 = 1;
-    if own != 0 {
-        if WHOLE <= taken {
-            return 0;
-        }
-        t = own * WHOLE / (WHOLE - taken);
+    let taken = load(shares, set);
+    if WHOLE <= taken {
+        return 0;
     }
-    if t < before as u64 {
-        t = before as u64;
-    }
-    let late = limit as u64 + 1;
-    while t < late {
-        let now = t as u32;
-        let next = own + demand::interference(jobs, above, now);
-        if next <= t {
-            if next == t {
-                return now;
-            }
-            return 0;
-        }
-        t = next;
-    }
-    0
-}
-
-// The own demand of so many instances of a job: their work, and the layer's share for it.
-fn own_demand(cost: u32, count: u32, quantum: u8, others: u32) -> u64
-    requires { ⌜ (cost < 2 ^ 16) × (count ≤ 64) × (others ≤ 2 ^ 11) ⌝ }
-    ensures { λ r. ⌜ (r ≡ ownDemand quantum others (count * cost)) × (r < 2 ^ 40) ⌝ }
-{
-    let work = count * cost;
-    let cycles = demand::ceil_div(work, quantum as u32);
-    work as u64 + (cycles as u64) * (others as u64)
-}
-
-// The largest response of a job up to the first instance that finishes by its next release; 0 where a finish does not exist by the
-// instance's deadline, or where the last instance still runs past its next release.
-fn largest_response(
-    jobs: [Job; Job::MOST],
-    above: u8,
-    taken: u64,
-    quantum: u8,
-    others: u32,
-    job: Job,
-) -> u16
-    requires { ⌜ others ≤ 2 ^ 11 ⌝ }
-    ensures { λ r. ⌜ r ≡ largestBy (interference jobs (has above)) taken quantum others job ⌝ }
-{
-    let cost = job.cost as u32;
-    let period = job.period as u32;
-    let deadline = job.deadline as u32;
-    let mut largest: u32 = 0;
-    let mut before: u32 = 0;
-    let mut instance: u32 = 0;
-    while instance < INSTANCES {
-        let release = instance * period;
-        let own = own_demand(cost, instance + 1, quantum, others);
-        let finish = time_for(jobs, above, taken, own, release + deadline, before);
-        if finish == 0 {
-            return 0;
-        }
-        let response = finish - release;
-        if largest < response {
-            largest = response;
-        }
-        if finish <= release + period {
-            return largest as u16;
-        }
-        before = finish;
-        instance += 1;
-    }
-    0
+    WHOLE - taken
 }
 
 impl Workload {
@@ -147,8 +76,13 @@ impl Workload {
         if Job::MOST <= job {
             return 0;
         }
+        let entry = self.jobs[job];
+        let quantum = quanta[job];
         let others = demand::other_quanta(quanta, layer, job);
-        let taken = load(self.shares, above);
-        largest_response(self.jobs, above, taken, quanta[job], others, self.jobs[job])
+        let left = free(self.shares, above);
+        if instances::runs_on(left, quantum, others, entry) {
+            return 0;
+        }
+        instances::largest_response(self, above, left, quantum, others, entry)
     }
 }

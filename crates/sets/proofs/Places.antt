@@ -1,6 +1,6 @@
 -- Laws of tests, sums, counts and lists over places. Assumes nothing.
 use mathlib.Core.Path.{_≡_, refl, sym, _∙_, ap, ap₂}
-use mathlib.Core.Bool.{Bool, true, false, cond, _&&_, and-eq-true-iff, and-false, false≢true}
+use mathlib.Core.Bool.{Bool, true, false, cond, not, _&&_, and-eq-true-iff, and-false, false≢true}
 use mathlib.Core.List.{List, [], _∷_, _++_}
 use mathlib.Core.Logic.{_⊎_, inl, inr, _≢_}
 use Prim.Native.Nat.{ℕ, zero, suc, _+_, _*_, _≤_, _<_, zero-le}
@@ -160,6 +160,17 @@ over-scale (suc n) t s f =
     at : (b : Bool) → cond b (t * f n) 0 ≡ t * cond b (f n) 0
     at true = refl
     at false = sym (mul-zero t)
+
+-- The places of a set that pass a test, and the others.
+pub over-split : (n : ℕ) (s test : Set) (f : ℕ → ℕ) → sumOver n s f ≡ sumOver n (λ i. s i && not (test i)) f + sumOver n (λ i. s i && test i) f
+unfolding sumOver sum
+over-split zero s test f = refl
+over-split (suc n) s test f = omega (arith, over-split n s test f, at (s n) (test n))
+  where
+    at : (b c : Bool) → cond b (f n) 0 ≡ cond (b && not c) (f n) 0 + cond (b && c) (f n) 0
+    at true true = omega arith
+    at true false = omega arith
+    at false c = refl
 
 -- A loop that sums over a set: no place is passed, and place n is in the set or not, by the test b that the code made.
 pub over-none : (s : Set) (f : ℕ → ℕ) → sumOver 0 s f ≡ 0

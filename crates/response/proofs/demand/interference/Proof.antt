@@ -14,7 +14,7 @@ use Rattle.response.proofs.demand.interference.Statement.{statement}
 use Rattle.response.proofs.demand.interference.Tie as tie
 
 abbrev Inv-loop : tie.InvT-loop
-Inv-loop above t jobs sum₀ i₀ sum i = (i ≤ mostJobs) × (sum ≡ sumOver i (has above) (λ k. work (jobAt jobs k) t)) × (sum ≤ i * 2 ^ 48)
+Inv-loop above t jobs sum₀ i₀ sum i = (i ≤ mostJobs) × (sum ≡ sumOver i (has above) (λ k. work (jobAt jobs k) t)) × (sum ≤ i * 2 ^ 39)
 
 abbrev μ-loop : tie.MeasureT-loop
 μ-loop above t jobs sum₀ i₀ sum i = mostJobs - i

@@ -6,8 +6,8 @@ use Rattle.response.specs.Search.{ownDemand}
 use Rattle.response.proofs.Division.{ceil-le}
 use borrow.Author.Needs.{needs}
 use borrow.Author.Needs.{needs}
-use Rattle.response.proofs.workload.own_demand.Statement.{statement}
-use Rattle.response.proofs.workload.own_demand.Tie as tie
+use Rattle.response.proofs.instances.own_demand.Statement.{statement}
+use Rattle.response.proofs.instances.own_demand.Tie as tie
 
 -- The work of at most 64 instances, and its own demand, fit.
 work-fits : (cost count : ℕ) → cost < 2 ^ 16 → count ≤ 64 → count * cost < 2 ^ 22

@@ -1,0 +1,133 @@
+use Prim.Native.Nat.{ℕ, suc, _+_, _-_, _*_, _/_, _≤_, max}
+use mathlib.Core.Path.{_≡_, refl, sym, _∙_, ap, ap₂}
+use mathlib.Core.List.{List}
+use native.Mathlib.Nat.{le-refl}
+use native.Mathlib.Omega.{arith}
+use Rattle.sets.specs.Sets.{has}
+use Rattle.records.specs.declared.job.Job.{Job}
+use Rattle.response.specs.Demand.{interference}
+use Rattle.response.specs.Search.{whole, climb}
+use Rattle.response.proofs.Climbing.{loop-past, loop-found, loop-falls, loop-rises}
+use borrow.Author.Needs.{needs}
+use Rattle.response.proofs.search.climb.Statement.{statement}
+use Rattle.response.proofs.search.climb.Tie as tie
+
+-- The demand with the jobs above in two sets, and the estimate.
+abbrev demand : List Job → ℕ → ℕ → ℕ → ℕ → ℕ
+demand jobs long short own t = own + interference jobs (has long) t + interference jobs (has short) t
+
+abbrev estimate : List Job → ℕ → ℕ → ℕ → ℕ → ℕ
+estimate jobs long left own t = (own + interference jobs (has long) t) * whole / left
+
+-- What is sought is what the iteration finds from t on, and t is not before the start.
+abbrev Inv-loop : tie.InvT-loop
+Inv-loop jobs long short left own limit start late t₀ t =
+    (climb (demand jobs long short own) (estimate jobs long left own) limit (suc limit) start
+    ≡ climb (demand jobs long short own) (estimate jobs long left own) limit (suc limit) t)
+    × (start ≤ t)
+
+abbrev μ-loop : tie.MeasureT-loop
+μ-loop jobs long short left own limit start late t₀ t = limit + 1 - t
+
+add-late : tie.Need-add-late Inv-loop μ-loop
+add-late c = search needs
+
+loop-holds : tie.Need-loop-holds Inv-loop μ-loop
+loop-holds c = (refl, le-refl _)
+
+-- In a turn: the demand at t, and the part of it with long periods.
+module _ (c : tie.After-interference2 Inv-loop μ-loop) where
+  abbrev t : ℕ
+  t = c .before .before .before .loop .t
+
+  abbrev f : ℕ → ℕ
+  f = let a = c .before .before .before .before .args in demand (a .jobs) (a .long) (a .short) (a .own)
+
+  abbrev g : ℕ → ℕ
+  g = let a = c .before .before .before .before .args in estimate (a .jobs) (a .long) (a .left) (a .own)
+
+  part : c .before .before .before .before .args .own + c .before .interference .result ≡ c .before .before .before .before .args .own + interference (c .before .before .before .before .args .jobs) (has (c .before .before .before .before .args .long)) t
+  part = ap (λ (x : ℕ). c .before .before .before .before .args .own + x) (c .before .interference .ensures .0)
+
+  next : c .before .before .before .before .args .own + c .before .interference .result + c .interference2 .result ≡ f t
+  next = ap₂ (λ (x y : ℕ). x + y) part (c .interference2 .ensures .0)
+
+cast-now : tie.Need-cast-now Inv-loop μ-loop
+cast-now c = search needs
+
+interference-requires : tie.Need-interference-requires Inv-loop μ-loop
+interference-requires c κs = search needs
+
+add-part : tie.Need-add-part Inv-loop μ-loop
+add-part c = search needs
+
+interference-requires-2 : tie.Need-interference-requires-2 Inv-loop μ-loop
+interference-requires-2 c κs = search needs
+
+add-next : tie.Need-add-next Inv-loop μ-loop
+add-next c = search needs
+
+returns : tie.Need-returns Inv-loop μ-loop
+returns c =
+    let p = c .before .before in
+    let l = p .before .before .before .loop in
+    let h = p .before .before .loop-test .taken in
+    (sym (l .inv .0 ∙ loop-found (f p) (g p) _ (omega (arith, h)) (sym (next p) ∙ c .if2 .taken)), omega (arith, h), λ e. l .inv .1)
+
+returns-2 : tie.Need-returns-2 Inv-loop μ-loop
+returns-2 c =
+    let p = c .before .before in
+    let l = p .before .before .before .loop in
+    (sym (l .inv .0 ∙ loop-falls (f p) (g p) _ (omega (arith, p .before .before .loop-test .taken)) (omega (arith, next p, c .before .if1 .taken)) (λ e. c .if2 .left (next p ∙ e))), omega arith, λ e. absurd (omega arith))
+
+mul-later : tie.Need-mul-later Inv-loop μ-loop
+mul-later c =
+    let p = c .before in omega (arith, p .before .interference .ensures .1, p .before .before .before .before .pre .1)
+
+div-later : tie.Need-div-later Inv-loop μ-loop
+div-later c = search needs
+
+later-requires : tie.Need-later-requires Inv-loop μ-loop
+later-requires c κs = search needs
+
+loop-less : tie.Need-loop-less Inv-loop μ-loop
+loop-less c =
+    let p = c .before .before in omega (arith, c .later .ensures, c .before .if1 .left, p .before .before .loop-test .taken)
+
+loop-again : tie.Need-loop-again Inv-loop μ-loop
+loop-again c =
+    let p = c .before .before in
+    let l = p .before .before .before .loop in
+    let a = p .before .before .before .before .args in
+    let moved : c .later .result ≡ max (f p (t p)) (g p (t p)) = c .later .ensures ∙ ap₂ max (next p) (ap (λ (x : ℕ). x * whole / a .left) (part p)) in (
+      l .inv .0
+          ∙ loop-rises (f p) (g p) _ (omega (arith, p .before .before .loop-test .taken)) (omega (arith, next p, c .before .if1 .left))
+          ∙ sym (ap (climb (f p) (g p) (a .limit) (suc (a .limit))) moved),
+      omega (arith, c .later .ensures, c .before .if1 .left, l .inv .1),
+    )
+
+returns-3 : tie.Need-returns-3 Inv-loop μ-loop
+returns-3 c =
+    (sym (c .before .loop .inv .0 ∙ loop-past _ _ _ (omega (arith, c .loop-test .left))), omega arith, λ e. absurd (omega arith))
+
+pub climb-spec : {M : Type 1} → statement M
+climb-spec =
+    tie.close
+    (tie.spec
+    Inv-loop
+    μ-loop
+    add-late
+    loop-holds
+    cast-now
+    interference-requires
+    add-part
+    interference-requires-2
+    add-next
+    returns
+    returns-2
+    mul-later
+    div-later
+    later-requires
+    loop-less
+    loop-again
+    returns-3)

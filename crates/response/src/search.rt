@@ -1,0 +1,141 @@
+// The search for a finish: some plain steps of the iteration, then steps with an estimate.
+ghost use mathlib.Core.Path.{_≡_};
+ghost use Prim.Native.Nat.{suc, _+_, _*_, _/_, _^_, _<_, _≤_, max};
+ghost use lib.Dec.{leb};
+ghost use Rattle.sets.specs.Sets.{has, Collects};
+ghost use Rattle.records.specs.Limits.{mostJobs};
+ghost use Rattle.records.specs.Jobs.{jobAt};
+ghost use Rattle.response.specs.Demand.{interference};
+ghost use Rattle.response.specs.Search.{whole, climb, farTime, timeFrom, timeFor};
+use crate::demand;
+use crate::workload;
+use crate::workload::WHOLE;
+use crate::workload::Workload;
+use records::job::Job;
+
+// The plain steps before estimates are made: most searches end within them.
+const PLAIN_STEPS: u32 = 4;
+
+// The part of a time up to which a period counts as short.
+const SHORT_PART: u64 = 256;
+
+// The jobs of a table with periods up to the longest that counts as short.
+fn short_jobs(jobs: [Job; Job::MOST], longest: u64) -> u8
+    ensures { λ r. ⌜ Collects mostJobs (λ i. leb (jobAt jobs i .period) longest) r ⌝ }
+{
+    let mut set: u8 = 0;
+    let mut i = 0;
+    while i < Job::MOST {
+        let job = jobs[i];
+        if job.period as u64 <= longest {
+            let more = sets::insert(set, i);
+            set = more;
+        }
+        i += 1;
+    }
+    set
+}
+
+// The later of two times.
+fn later(a: u64, b: u64) -> u64
+    ensures { λ r. ⌜ r ≡ max a b ⌝ }
+{
+    if a < b {
+        return b;
+    }
+    a
+}
+
+// The iteration from a start up to a limit, for the jobs above in two sets: between two steps those with short periods count by what
+// they leave of the processor.
+fn climb(
+    jobs: [Job; Job::MOST],
+    long: u8,
+    short: u8,
+    left: u64,
+    own: u64,
+    limit: u32,
+    start: u64,
+) -> u32
+    requires { ⌜ (0 < left) × (own < 2 ^ 40) × (limit < 2 ^ 23) ⌝ }
+    ensures { λ r. ⌜ (r ≡ climb (λ t. own + interference jobs (has long) t + interference jobs (has short) t) (λ t. (own + interference jobs (has long) t) * whole / left) limit (suc limit) start) × (r ≤ limit) × ((r ≡ 0 → ⊥) → start ≤ r) ⌝ }
+{
+    let late = limit as u64 + 1;
+    let mut t = start;
+    while t < late {
+        let now = t as u32;
+        let part = own + demand::interference(jobs, long, now);
+        let next = part + demand::interference(jobs, short, now);
+        if next <= t {
+            if next == t {
+                return now;
+            }
+            return 0;
+        }
+        t = later(next, part * WHOLE / left);
+    }
+    0
+}
+
+// The least time from a start up to a limit that equals the own demand with the interference of the set above, or 0.
+fn far_time(workload: Workload, above: u8, own: u64, limit: u32, start: u64) -> u32
+    requires { ⌜ (own < 2 ^ 40) × (limit < 2 ^ 23) ⌝ }
+    ensures { λ r. ⌜ (r ≡ farTime workload (has above) own limit start) × (r ≤ limit) × ((r ≡ 0 → ⊥) → start ≤ r) ⌝ }
+{
+    let jobs = workload.jobs;
+    let shares = workload.shares;
+    let long = sets::rest(above, short_jobs(jobs, start / SHORT_PART));
+    let short = sets::rest(above, long);
+    let left = later(1, workload::free(shares, short));
+    climb(jobs, long, short, left, own, limit, start)
+}
+
+// The same, after some plain steps.
+fn time_from(workload: Workload, above: u8, own: u64, limit: u32, start: u64) -> u32
+    requires { ⌜ (own < 2 ^ 40) × (limit < 2 ^ 23) ⌝ }
+    ensures { λ r. ⌜ (r ≡ timeFrom workload (has above) own limit start) × (r ≤ limit) × ((r ≡ 0 → ⊥) → start ≤ r) ⌝ }
+{
+    let jobs = workload.jobs;
+    let late = limit as u64 + 1;
+    let mut t = start;
+    let mut step: u32 = 0;
+    while step < PLAIN_STEPS {
+        if late <= t {
+            return 0;
+        }
+        let now = t as u32;
+        let next = own + demand::interference(jobs, above, now);
+        if next <= t {
+            if next == t {
+                return now;
+            }
+            return 0;
+        }
+        t = next;
+        step += 1;
+    }
+    far_time(workload, above, own, limit, t)
+}
+
+// The least time up to a limit that equals the own demand with the interference of the set above, which leaves some of the processor, or
+// 0; no such time is below `before`.
+pub(crate) fn time_for(
+    workload: Workload,
+    above: u8,
+    left: u64,
+    own: u64,
+    limit: u32,
+    before: u32,
+) -> u32
+    requires { ⌜ (own < 2 ^ 40) × (limit < 2 ^ 23) ⌝ }
+    ensures { λ r. ⌜ (r ≡ timeFor workload (has above) left own limit before) × (r ≤ limit) × ((r ≡ 0 → ⊥) → before ≤ r) ⌝ }
+{
+    let mut t: u64 = 1;
+    if own != 0 {
+        if left == 0 {
+            return 0;
+        }
+        t = own * WHOLE / left;
+    }
+    time_from(workload, above, own, limit, later(t, before as u64))
+}
