@@ -1,6 +1,7 @@
-//! The response-time test with both shortcuts, which counts its work.
+//! The response-time test with its shortcuts, which counts its work.
 
 use crate::calls::{Answer, Case};
+use crate::same::job::Job;
 use crate::same::planner::{Method, Search};
 use crate::same::response::{Iteration, Shortcuts};
 use std::cell::Cell;
@@ -29,13 +30,23 @@ impl Counted {
 }
 
 impl Iteration for &Counted {
-    fn start(&self, own: u32, load: impl FnOnce() -> u64) -> Option<u64> {
-        self.add(2);
-        Shortcuts.start(own, load)
+    const PLAIN_STEPS: u32 = Shortcuts::PLAIN_STEPS;
+
+    fn left(&self, free: impl FnOnce() -> u64) -> u64 {
+        Shortcuts.left(free)
     }
 
-    fn evaluates(&self, above: u8) {
-        self.add(1 + above.count_ones());
+    fn start(&self, own: u64, left: u64, before: u32) -> Option<u64> {
+        self.add(2);
+        Shortcuts.start(own, left, before)
+    }
+
+    fn runs_on(&self, job: &Job, quantum: u32, others: u32, left: u64) -> bool {
+        Shortcuts.runs_on(job, quantum, others, left)
+    }
+
+    fn evaluates(&self, set: u8) {
+        self.add(1 + set.count_ones());
     }
 }
 

@@ -1,8 +1,9 @@
-//! Families of lists that are heavy for a planner, and changes of a list.
+//! Families of lists with deadlines within the periods that are heavy for a planner, and changes of a
+//! list.
 
 use crate::lists::{give_ids, job};
 use crate::random::Random;
-use crate::same::job::{Job, LONGEST_PERIOD};
+use crate::same::job::{Job, LONGEST_DEADLINE, LONGEST_PERIOD};
 use crate::same::MOST_JOBS;
 
 /// A family: its name, and a list of it.
@@ -52,13 +53,13 @@ fn full_above(random: &mut Random) -> Vec<Job> {
     with_long_jobs(random, jobs, 3.0)
 }
 
-/// Short jobs that together take all of the processor but a small part, with long ones.
-fn nearly_full_above(random: &mut Random) -> Vec<Job> {
+/// Jobs of periods up to some number that together take all of the processor but a small part.
+pub fn nearly_full(random: &mut Random, most: f64) -> Vec<Job> {
     let count = random.between(2, 5);
     let mut jobs = Vec::new();
     let mut share = 1.0 - random.scaled(1e-4, 0.1);
     for index in 0..count {
-        let period = random.scaled(4.0, 20_000.0).floor();
+        let period = random.scaled(4.0, most).floor();
         let part = if index + 1 == count {
             1.0
         } else {
@@ -69,6 +70,12 @@ fn nearly_full_above(random: &mut Random) -> Vec<Job> {
         share = share.max(0.0);
         jobs.push(short);
     }
+    jobs
+}
+
+/// Such jobs with long ones.
+fn nearly_full_above(random: &mut Random) -> Vec<Job> {
+    let jobs = nearly_full(random, 20_000.0);
     let most = random.scaled(1.0, 3_000.0);
     with_long_jobs(random, jobs, most)
 }
@@ -105,9 +112,8 @@ fn equal_long(random: &mut Random) -> Vec<Job> {
     jobs
 }
 
-/// Jobs of cost 1 that take all of the processor but a very small part, with long jobs that together
-/// need about the rest of it.
-fn unit_costs_above(random: &mut Random) -> Vec<Job> {
+/// Jobs of cost 1 that take all of the processor but a very small part, and that part.
+pub fn unit_costs(random: &mut Random) -> (Vec<Job>, f64) {
     let mut free = 1.0;
     let mut jobs = Vec::new();
     for _ in 0..random.between(2, 5) {
@@ -117,6 +123,12 @@ fn unit_costs_above(random: &mut Random) -> Vec<Job> {
             free -= 1.0 / period;
         }
     }
+    (jobs, free)
+}
+
+/// Such jobs with long ones that together need about the rest of the processor.
+fn unit_costs_above(random: &mut Random) -> Vec<Job> {
+    let (mut jobs, free) = unit_costs(random);
     let need = f64::from(LONGEST_PERIOD) * free * random.real(0.7, 1.5);
     let long = (MOST_JOBS - jobs.len()) as f64;
     while jobs.len() < MOST_JOBS {
@@ -125,6 +137,23 @@ fn unit_costs_above(random: &mut Random) -> Vec<Job> {
     }
     give_ids(&mut jobs);
     jobs
+}
+
+/// How long the deadlines of a changed list may be.
+#[derive(Clone, Copy)]
+pub enum Deadlines {
+    WithinPeriod,
+    PastPeriod,
+}
+
+impl Deadlines {
+    /// The longest deadline of a job with a period.
+    fn longest(self, period: u16) -> u16 {
+        match self {
+            Deadlines::WithinPeriod => period,
+            Deadlines::PastPeriod => LONGEST_DEADLINE,
+        }
+    }
 }
 
 /// Brings a number into limits after a change of it.
@@ -141,17 +170,20 @@ fn changed(random: &mut Random, number: u16, least: u16, most: u16) -> u16 {
 }
 
 /// A list that differs in one or a few numbers.
-pub fn mutated(random: &mut Random, list: &[Job]) -> Vec<Job> {
+pub fn mutated(random: &mut Random, list: &[Job], deadlines: Deadlines) -> Vec<Job> {
     let mut jobs = list.to_vec();
     for _ in 0..random.between(1, 3) {
         let place = random.between(0, jobs.len() - 1);
         let mut job = jobs[place];
         match random.between(0, 4) {
-            0 => job.cost = changed(random, job.cost, 1, job.deadline),
-            1 => job.deadline = changed(random, job.deadline, job.cost, job.period),
+            0 => job.cost = changed(random, job.cost, 1, job.deadline.min(job.period)),
+            1 => {
+                let longest = deadlines.longest(job.period);
+                job.deadline = changed(random, job.deadline, job.cost, longest);
+            }
             2 => {
                 job.period = changed(random, job.period, job.cost, LONGEST_PERIOD);
-                job.deadline = job.deadline.min(job.period);
+                job.deadline = job.deadline.min(deadlines.longest(job.period));
             }
             3 => job = jobs[random.between(0, jobs.len() - 1)],
             _ => {

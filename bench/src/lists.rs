@@ -1,11 +1,14 @@
 //! Random lists of jobs, ranges and configurations.
 
 use crate::random::Random;
-use crate::same::job::{Job, LONGEST_PERIOD};
+use crate::same::job::{Job, LONGEST_DEADLINE, LONGEST_PERIOD};
 use crate::same::setting::Setting;
 
 /// The ranges of quanta of mixed calls.
 const RANGES: [(u8, u8); 4] = [(1, 4), (1, 5), (2, 16), (1, 64)];
+
+/// The most periods that the deadline of a late list has.
+const MOST_PERIODS: f64 = 6.0;
 
 /// How the times of a random list are drawn.
 #[derive(Clone, Copy)]
@@ -17,19 +20,29 @@ pub enum Kind {
     Short,
     /// Utilisations of any proportion, periods up to the longest, some deadlines shorter.
     Wide,
+    /// Utilisations of any proportion, periods as in short or wide lists, deadlines from one period
+    /// to several.
+    Late,
 }
 
+/// Kinds of lists, each with its name.
+pub type Kinds = [(&'static str, Kind)];
+
 impl Kind {
-    /// The kinds, each with its name.
-    pub const ALL: [(&'static str, Kind); 3] = [
+    /// The kinds whose deadlines are within the periods.
+    pub const WITHIN_PERIOD: &'static Kinds = &[
         ("even lists", Kind::Even),
         ("short lists", Kind::Short),
         ("wide lists", Kind::Wide),
     ];
 
-    /// One of the kinds.
-    pub fn any(random: &mut Random) -> Kind {
-        random.choose(&Kind::ALL).1
+    /// The kinds whose deadlines are past the periods. They have lines of their own, so that the
+    /// lists of the other lines do not depend on them.
+    pub const PAST_PERIOD: &'static Kinds = &[("late lists", Kind::Late)];
+
+    /// One of some kinds.
+    pub fn any(random: &mut Random, kinds: &Kinds) -> Kind {
+        random.choose(kinds).1
     }
 }
 
@@ -45,6 +58,15 @@ pub fn job(cost: f64, period: f64, deadline: impl FnOnce(u16, u16) -> u16) -> Jo
     }
 }
 
+/// The job with a deadline of so many periods, or with the longest one.
+pub fn late(job: Job, periods: f64) -> Job {
+    let deadline = f64::from(job.period) * periods;
+    Job {
+        deadline: deadline.min(f64::from(LONGEST_DEADLINE)) as u16,
+        ..job
+    }
+}
+
 /// Gives jobs the ids from 1 on.
 pub fn give_ids(jobs: &mut [Job]) {
     for (id, job) in (1..).zip(jobs) {
@@ -57,12 +79,12 @@ pub fn list(random: &mut Random, kind: Kind, count: usize, load: f64) -> Vec<Job
     let weights: Vec<f64> = (0..count)
         .map(|_| match kind {
             Kind::Even => random.real(0.85, 1.15) / count as f64,
-            Kind::Short | Kind::Wide => random.scaled(0.1, 1.0),
+            Kind::Short | Kind::Wide | Kind::Late => random.scaled(0.1, 1.0),
         })
         .collect();
     let sum = match kind {
         Kind::Even => 1.0,
-        Kind::Short | Kind::Wide => weights.iter().sum(),
+        Kind::Short | Kind::Wide | Kind::Late => weights.iter().sum(),
     };
     let mut jobs: Vec<Job> = weights
         .iter()
@@ -92,12 +114,17 @@ fn random_job(random: &mut Random, kind: Kind, share: f64) -> Job {
                 }
             })
         }
+        Kind::Late => {
+            let kind = random.choose(&[Kind::Short, Kind::Wide]);
+            let job = random_job(random, kind, share);
+            late(job, random.scaled(1.0, MOST_PERIODS))
+        }
     }
 }
 
-/// A list of a mixed kind, length and load.
-pub fn mixed_list(random: &mut Random) -> Vec<Job> {
-    let kind = Kind::any(random);
+/// A list of one of some kinds, of a mixed length and load.
+pub fn mixed_list(random: &mut Random, kinds: &Kinds) -> Vec<Job> {
+    let kind = Kind::any(random, kinds);
     let count = random.between(1, 8);
     let load = random.real(0.6, 1.05);
     list(random, kind, count, load)

@@ -7,6 +7,7 @@
 mod calls;
 mod counted;
 mod families;
+mod late_families;
 mod library;
 mod lists;
 mod measures;

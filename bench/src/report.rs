@@ -39,7 +39,7 @@ fn rate(seconds: f64) -> String {
 fn figures(name: &str, times: &Sides, other: &str, written: fn(f64) -> String) -> String {
     let ours = written(times.ours);
     let theirs = written(times.other);
-    format!("{name:<36}  ours {ours:>8}  {other} {theirs:>8}")
+    format!("{name:<42}  ours {ours:>8}  {other} {theirs:>8}")
 }
 
 /// A line with the product's time in parts of the other's.
@@ -64,9 +64,11 @@ pub fn faster(name: &str, times: &Sides, other: &str, goal: Option<Goal>) {
     );
 }
 
-/// A line with the product's time held to a goal in seconds.
-pub fn within(name: &str, times: &Sides, other: &str, limit: f64) {
-    let goal = Goal::AtMost(limit).text(times.ours, time);
+/// A line with the product's time held to a goal in seconds, if there is one.
+pub fn within(name: &str, times: &Sides, other: &str, limit: Option<f64>) {
+    let goal = limit.map_or(String::new(), |limit| {
+        Goal::AtMost(limit).text(times.ours, time)
+    });
     let ratio = times.ratio();
     println!(
         "{}  ratio {ratio:.2}{goal}",

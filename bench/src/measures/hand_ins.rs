@@ -2,7 +2,7 @@
 
 use crate::calls::Case;
 use crate::library;
-use crate::lists::{self, Kind};
+use crate::lists::{self, Kind, Kinds};
 use crate::measures::{check_marks, time_marks, Scale};
 use crate::random::Random;
 use crate::report;
@@ -12,8 +12,8 @@ const RANGE: (u8, u8) = (1, 64);
 
 /// A hand-in: half of them, where the planner places every job, its plan; otherwise any full
 /// configuration.
-fn hand_in(random: &mut Random) -> Case {
-    let kind = Kind::any(random);
+fn hand_in(random: &mut Random, kinds: &Kinds) -> Case {
+    let kind = Kind::any(random, kinds);
     let load = random.real(0.6, 0.95);
     let jobs = lists::list(random, kind, MOST_JOBS, load);
     let settings = lists::settings(random, &jobs, RANGE, true);
@@ -25,10 +25,18 @@ fn hand_in(random: &mut Random) -> Case {
     case
 }
 
-pub fn run(scale: &Scale) {
-    let random = &mut Random::of_measure(scale.seed, 4);
-    let cases: Vec<Case> = (0..scale.hand_ins).map(|_| hand_in(random)).collect();
+/// Hand-ins for lists of some kinds.
+fn run_kinds(scale: &Scale, random: &mut Random, kinds: &Kinds, name: &str) {
+    let case = |_| hand_in(random, kinds);
+    let cases: Vec<Case> = (0..scale.hand_ins).map(case).collect();
     check_marks(&cases, library::mark, marker::mark);
     let times = time_marks(&cases, scale.effort, library::mark, marker::mark);
-    report::per_second("d hand-ins", &times, "rust");
+    report::per_second(name, &times, "rust");
+}
+
+pub fn run(scale: &Scale) {
+    let random = &mut Random::of_measure(scale.seed, 4);
+    run_kinds(scale, random, Kind::WITHIN_PERIOD, "d hand-ins");
+    let random = &mut Random::of_measure(scale.seed, 8);
+    run_kinds(scale, random, Kind::PAST_PERIOD, "d hand-ins, late lists");
 }

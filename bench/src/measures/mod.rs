@@ -21,7 +21,7 @@ pub struct Scale {
     pub hand_ins: usize,
     /// The number of lists on which the pruned search is run.
     pub pruned_lists: usize,
-    /// The work that the search for the slowest list may spend.
+    /// The work that a search for the slowest list may spend.
     pub search_work: u64,
     pub effort: Effort,
 }

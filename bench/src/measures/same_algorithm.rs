@@ -2,7 +2,7 @@
 
 use crate::calls::Case;
 use crate::library;
-use crate::lists;
+use crate::lists::{self, Kind, Kinds};
 use crate::measures::{check_marks, check_plans, time_marks, time_plans, Scale};
 use crate::random::Random;
 use crate::report::{ratio, Goal};
@@ -10,10 +10,10 @@ use crate::same::{marker, planner};
 
 const GOAL: f64 = 1.25;
 
-/// Calls for random lists with any levels.
-fn configurations(random: &mut Random, count: usize, full: bool) -> Vec<Case> {
+/// Calls for random lists of some kinds with any levels.
+fn configurations(random: &mut Random, kinds: &Kinds, count: usize, full: bool) -> Vec<Case> {
     let case = |_| {
-        let jobs = lists::mixed_list(random);
+        let jobs = lists::mixed_list(random, kinds);
         let range = lists::range(random);
         let settings = lists::settings(random, &jobs, range, full);
         Case::mark(&jobs, range, &settings)
@@ -21,24 +21,31 @@ fn configurations(random: &mut Random, count: usize, full: bool) -> Vec<Case> {
     (0..count).map(case).collect()
 }
 
-pub fn run(scale: &Scale) {
-    let random = &mut Random::of_measure(scale.seed, 1);
+/// The three entries over lists of some kinds; the names of the lines end in some words.
+fn compare(scale: &Scale, random: &mut Random, kinds: &Kinds, ending: &str) {
     let goal = || Goal::AtMost(GOAL);
 
-    let cases = configurations(random, scale.hand_ins, false);
+    let cases = configurations(random, kinds, scale.hand_ins, false);
     check_marks(&cases, library::bounds, marker::bounds);
     let times = time_marks(&cases, scale.effort, library::bounds, marker::bounds);
-    ratio("a bounds", &times, "rust", goal());
+    ratio(&format!("a bounds{ending}"), &times, "rust", goal());
 
-    let cases = configurations(random, scale.hand_ins, true);
+    let cases = configurations(random, kinds, scale.hand_ins, true);
     check_marks(&cases, library::mark, marker::mark);
     let times = time_marks(&cases, scale.effort, library::mark, marker::mark);
-    ratio("a mark", &times, "rust", goal());
+    ratio(&format!("a mark{ending}"), &times, "rust", goal());
 
     let cases: Vec<Case> = (0..scale.lists)
-        .map(|_| Case::plan(&lists::mixed_list(random), lists::range(random)))
+        .map(|_| Case::plan(&lists::mixed_list(random, kinds), lists::range(random)))
         .collect();
     check_plans(&cases, library::plan, planner::plan);
     let times = time_plans(&cases, scale.effort, library::plan, planner::plan);
-    ratio("a plan", &times, "rust", goal());
+    ratio(&format!("a plan{ending}"), &times, "rust", goal());
+}
+
+pub fn run(scale: &Scale) {
+    let random = &mut Random::of_measure(scale.seed, 1);
+    compare(scale, random, Kind::WITHIN_PERIOD, "");
+    let random = &mut Random::of_measure(scale.seed, 7);
+    compare(scale, random, Kind::PAST_PERIOD, ", late lists");
 }

@@ -1,9 +1,11 @@
-//! Measure c: the slowest list that a search over heavy families finds, range 1 to 64, and the
-//! families against plain iteration.
+//! Measure c: the slowest lists that searches over heavy families find, range 1 to 64, one with
+//! deadlines within the periods and one with deadlines past them, and the first families against
+//! plain iteration.
 
 use crate::calls::Case;
 use crate::counted::{work, Counted};
-use crate::families::{mutated, Family, FAMILIES};
+use crate::families::{mutated, Deadlines, Family, FAMILIES};
+use crate::late_families::LATE_FAMILIES;
 use crate::library;
 use crate::measures::{check_plans, time_plans, Scale};
 use crate::plain;
@@ -13,9 +15,6 @@ use crate::same::job::Job;
 use crate::same::planner::{self, Raising};
 use crate::timing::{Effort, Sides};
 use std::cmp::Reverse;
-
-/// The goal for the slowest list, in seconds.
-const GOAL: f64 = 0.1;
 
 /// The goal for how many times faster than plain iteration.
 const PLAIN_GOAL: f64 = 10.0;
@@ -31,8 +30,52 @@ const PLAIN_LISTS: usize = 24;
 /// The work of a call beside that of its bounds.
 const CALL_WORK: u64 = 1_000;
 
-/// The number of lists of each family from which the search starts.
+/// The number of lists of each family from which a search starts.
 const STARTS: usize = 100;
+
+/// A search for the slowest list.
+struct Search {
+    /// The name of its line.
+    name: &'static str,
+    /// The families from which it starts.
+    families: &'static [Family],
+    /// How long the deadlines of the lists may become.
+    deadlines: Deadlines,
+    /// How many times the work of the scale it may spend: more where a list takes more work.
+    times_work: u64,
+    /// How much of that goes to the last climb, from the lists found, in parts of what goes to each
+    /// family.
+    last_shares: u64,
+    /// The most pairs of batches in which the list that it finds is measured.
+    most_pairs: usize,
+    /// The goal for that list, in seconds.
+    goal: f64,
+    /// The source of its numbers.
+    source: u64,
+}
+
+const SEARCHES: [Search; 2] = [
+    Search {
+        name: "c slowest list",
+        families: &FAMILIES,
+        deadlines: Deadlines::WithinPeriod,
+        times_work: 1,
+        last_shares: 0,
+        most_pairs: usize::MAX,
+        goal: 0.1,
+        source: 3,
+    },
+    Search {
+        name: "c slowest list, deadlines past the period",
+        families: &LATE_FAMILIES,
+        deadlines: Deadlines::PastPeriod,
+        times_work: 5,
+        last_shares: 5,
+        most_pairs: 7,
+        goal: 0.5,
+        source: 10,
+    },
+];
 
 /// A list with the work that planning it takes.
 struct Weighed {
@@ -50,40 +93,51 @@ impl Weighed {
     }
 }
 
-/// The list of most work that comes from a family: the search starts from lists of the family and
-/// changes the best of them, until it has spent its work.
-fn climb(random: &mut Random, list: fn(&mut Random) -> Vec<Job>, most_work: u64) -> Weighed {
-    let mut kept: Vec<Weighed> = (0..STARTS).map(|_| Weighed::new(list(random))).collect();
-    let mut spent: u64 = kept.iter().map(|each| each.work).sum();
-    kept.sort_by_key(|each| Reverse(each.work));
-    kept.truncate(KEPT);
-    while spent < most_work {
-        let place = random.between(0, kept.len() - 1);
-        let next = Weighed::new(mutated(random, &kept[place].jobs));
-        spent += next.work + CALL_WORK;
-        if kept[place].work < next.work {
-            kept[place] = next;
+impl Search {
+    /// The list of most work that comes from some lists: those of most work are changed again and
+    /// again, until the work is spent.
+    fn climb(&self, random: &mut Random, mut kept: Vec<Weighed>, most_work: u64) -> Weighed {
+        let mut spent: u64 = kept.iter().map(|each| each.work).sum();
+        kept.sort_by_key(|each| Reverse(each.work));
+        kept.truncate(KEPT);
+        while spent < most_work {
+            let place = random.between(0, kept.len() - 1);
+            let next = Weighed::new(mutated(random, &kept[place].jobs, self.deadlines));
+            spent += next.work + CALL_WORK;
+            if kept[place].work < next.work {
+                kept[place] = next;
+            }
         }
+        kept.sort_by_key(|each| Reverse(each.work));
+        kept.swap_remove(0)
     }
-    kept.sort_by_key(|each| Reverse(each.work));
-    kept.swap_remove(0)
-}
 
-fn run_slowest(scale: &Scale) {
-    let random = &mut Random::of_measure(scale.seed, 3);
-    let share = scale.search_work / FAMILIES.len() as u64;
-    let found = FAMILIES
-        .iter()
-        .map(|(_, list)| climb(random, *list, share))
-        .max_by_key(|found| found.work)
-        .expect("there are families");
-    let cases = [Case::plan(&found.jobs, RANGE)];
-    check_plans(&cases, library::plan, planner::plan);
-    let times = time_plans(&cases, scale.effort, library::plan, planner::plan);
-    report::within("c slowest list", &times, "rust", GOAL);
-    let triple = |job: &Job| format!("({},{},{})", job.cost, job.period, job.deadline);
-    let triples: Vec<String> = found.jobs.iter().map(triple).collect();
-    report::note(&format!("seed {}: {}", scale.seed, triples.join(" ")));
+    /// The list of most work: a climb from lists of each family, then one from the lists found.
+    fn slowest(&self, random: &mut Random, most_work: u64) -> Weighed {
+        let share = most_work / (self.families.len() as u64 + self.last_shares);
+        let of_family = |(_, list): &Family| {
+            let starts = (0..STARTS).map(|_| Weighed::new(list(random))).collect();
+            self.climb(random, starts, share)
+        };
+        let found = self.families.iter().map(of_family).collect();
+        self.climb(random, found, share * self.last_shares)
+    }
+
+    fn run(&self, scale: &Scale) {
+        let random = &mut Random::of_measure(scale.seed, self.source);
+        let found = self.slowest(random, scale.search_work * self.times_work);
+        let cases = [Case::plan(&found.jobs, RANGE)];
+        check_plans(&cases, library::plan, planner::plan);
+        let effort = Effort {
+            pairs: scale.effort.pairs.min(self.most_pairs),
+            ..scale.effort
+        };
+        let times = time_plans(&cases, effort, library::plan, planner::plan);
+        report::within(self.name, &times, "rust", Some(self.goal));
+        let triple = |job: &Job| format!("({},{},{})", job.cost, job.period, job.deadline);
+        let triples: Vec<String> = found.jobs.iter().map(triple).collect();
+        report::note(&format!("seed {}: {}", scale.seed, triples.join(" ")));
+    }
 }
 
 /// Plans of a family against plain iteration.
@@ -116,6 +170,8 @@ fn run_families(scale: &Scale) {
 }
 
 pub fn run(scale: &Scale) {
-    run_slowest(scale);
+    for search in SEARCHES {
+        search.run(scale);
+    }
     run_families(scale);
 }

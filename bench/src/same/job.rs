@@ -5,6 +5,9 @@ use crate::same::{Refusal, MOST_JOBS};
 /// The longest period, in ticks.
 pub const LONGEST_PERIOD: u16 = 60_000;
 
+/// The longest deadline, in ticks.
+pub const LONGEST_DEADLINE: u16 = 60_000;
+
 /// The longest quantum, in ticks.
 pub const LONGEST_QUANTUM: u8 = 64;
 
@@ -37,7 +40,8 @@ impl Job {
     fn times_are_ok(&self) -> bool {
         1 <= self.cost
             && self.cost <= self.deadline
-            && self.deadline <= self.period
+            && self.cost <= self.period
+            && self.deadline <= LONGEST_DEADLINE
             && self.period <= LONGEST_PERIOD
     }
 

@@ -1,4 +1,4 @@
-//! The product's algorithm written in Rust: the same blocks, the same response-time test with both
+//! The product's algorithm written in Rust: the same blocks, the same response-time test with its
 //! shortcuts, the same search for quanta and the same order of sets.
 
 pub mod job;

@@ -6,30 +6,62 @@ use crate::same::{contains, MOST_JOBS};
 /// The whole processor, in the parts by which utilisation is counted.
 pub const WHOLE: u64 = 1 << 20;
 
+/// The most instances of a job that a bound goes through.
+const INSTANCES: u32 = 64;
+
+/// The part of a time up to which a period counts as short.
+const SHORT_PART: u64 = 256;
+
 /// The quanta of a layer, at the places of its jobs.
 pub type Quanta = [u8; MOST_JOBS];
 
 /// The fixed-point iteration that seeks the least time that equals its demand.
 pub trait Iteration {
-    /// The time from which the iteration starts, given the job's own demand and the utilisation of
-    /// the set above; none where no time equals its demand.
-    fn start(&self, own: u32, load: impl FnOnce() -> u64) -> Option<u64>;
+    /// The plain steps before estimates are made.
+    const PLAIN_STEPS: u32;
 
-    /// Is told of each evaluation of the demand, with the set above.
-    fn evaluates(&self, _above: u8) {}
+    /// What the set above leaves of the processor, which one bound asks for once; the whole where
+    /// the iteration does not use it.
+    fn left(&self, free: impl FnOnce() -> u64) -> u64;
+
+    /// The time from which the iteration of an instance starts, given the instance's own demand,
+    /// what the set above leaves and the finish of the instance before, 0 for the first one; none
+    /// where no time equals its demand.
+    fn start(&self, own: u64, left: u64, before: u32) -> Option<u64>;
+
+    /// Whether no instance finishes by its next release because the layer asks for more than is
+    /// left.
+    fn runs_on(&self, job: &Job, quantum: u32, others: u32, left: u64) -> bool;
+
+    /// Is told of each evaluation of an interference, with the set.
+    fn evaluates(&self, _set: u8) {}
 }
 
-/// The iteration with both shortcuts: none where the set above takes the whole processor, and a
-/// start from the utilisation above.
+/// The iteration with its shortcuts: none where the set above leaves nothing, a start from what it
+/// leaves or from the finish of the instance before, whichever is later, and estimates after some
+/// plain steps.
 pub struct Shortcuts;
 
 impl Iteration for Shortcuts {
-    fn start(&self, own: u32, load: impl FnOnce() -> u64) -> Option<u64> {
-        let load = load();
-        if WHOLE <= load {
+    const PLAIN_STEPS: u32 = 4;
+
+    fn left(&self, free: impl FnOnce() -> u64) -> u64 {
+        free()
+    }
+
+    fn start(&self, own: u64, left: u64, before: u32) -> Option<u64> {
+        if left == 0 {
             return None;
         }
-        Some(u64::from(own) * WHOLE / (WHOLE - load))
+        Some((own * WHOLE / left).max(u64::from(before)))
+    }
+
+    fn runs_on(&self, job: &Job, quantum: u32, others: u32, left: u64) -> bool {
+        if quantum == 0 {
+            return false;
+        }
+        let held = u64::from(job.period) * u64::from(quantum) * left;
+        held < u64::from(job.cost) * u64::from(quantum + others) * WHOLE
     }
 }
 
@@ -52,41 +84,100 @@ impl<I: Iteration> Workload<I> {
     /// The bound of the job at a place, in a layer with a set above.
     pub fn bound(&self, quanta: &Quanta, layer: u8, above: u8, place: usize) -> u16 {
         let job = &self.jobs[place];
-        let cost = u32::from(job.cost);
-        let cycles = match quanta[place] {
-            0 => 0,
-            quantum => cost.div_ceil(u32::from(quantum)),
-        };
-        let own = cost + cycles * other_quanta(quanta, layer, place);
-        self.least_time(above, own, job.deadline)
+        let quantum = u32::from(quanta[place]);
+        let others = other_quanta(quanta, layer, place);
+        let left = self.iteration.left(|| self.free(above));
+        if self.iteration.runs_on(job, quantum, others, left) {
+            return 0;
+        }
+        self.largest_response(above, left, job, quantum, others)
     }
 
-    fn least_time(&self, above: u8, own: u32, deadline: u16) -> u16 {
-        let Some(mut time) = self.iteration.start(own, || self.load(above)) else {
-            return 0;
-        };
-        while time <= u64::from(deadline) {
-            self.iteration.evaluates(above);
-            let next = u64::from(own) + self.interference(above, time as u32);
-            if next <= time {
-                return if next == time { time as u16 } else { 0 };
+    /// The largest response up to the first instance that finishes by its next release; 0 where a
+    /// response is over the deadline, or where the last instance still runs on.
+    fn largest_response(&self, above: u8, left: u64, job: &Job, quantum: u32, others: u32) -> u16 {
+        let (cost, period) = (u32::from(job.cost), u32::from(job.period));
+        let mut largest = 0;
+        let mut before = 0;
+        for instance in 0..INSTANCES {
+            let release = instance * period;
+            let own = own_demand((instance + 1) * cost, quantum, others);
+            let limit = release + u32::from(job.deadline);
+            let finish = match self.iteration.start(own, left, before) {
+                Some(start) => self.time_from(above, own, limit, start),
+                None => 0,
+            };
+            if finish == 0 {
+                return 0;
             }
-            time = next;
+            largest = largest.max(finish - release);
+            if finish <= release + period {
+                return largest as u16;
+            }
+            before = finish;
         }
         0
     }
 
-    fn load(&self, set: u8) -> u64 {
-        let mut sum = 0;
-        for (place, share) in self.shares.iter().enumerate() {
-            if contains(set, place) {
-                sum += u64::from(*share);
+    /// The least time from a start up to a limit that equals its demand, or 0: some plain steps,
+    /// then steps with estimates.
+    fn time_from(&self, above: u8, own: u64, limit: u32, start: u64) -> u32 {
+        let mut time = start;
+        for _ in 0..I::PLAIN_STEPS {
+            if u64::from(limit) < time {
+                return 0;
+            }
+            let next = own + self.interference(above, time as u32);
+            if next <= time {
+                return if next == time { time as u32 } else { 0 };
+            }
+            time = next;
+        }
+        self.far_time(above, own, limit, time)
+    }
+
+    /// The same with estimates: between two steps the jobs with short periods count by what they
+    /// leave of the processor.
+    fn far_time(&self, above: u8, own: u64, limit: u32, start: u64) -> u32 {
+        let long = above & !self.short_jobs(start / SHORT_PART);
+        let short = above & !long;
+        let left = self.free(short).max(1);
+        let mut time = start;
+        while time <= u64::from(limit) {
+            let part = own + self.interference(long, time as u32);
+            let next = part + self.interference(short, time as u32);
+            if next <= time {
+                return if next == time { time as u32 } else { 0 };
+            }
+            time = next.max(part * WHOLE / left);
+        }
+        0
+    }
+
+    /// The jobs with periods up to the longest that counts as short.
+    fn short_jobs(&self, longest: u64) -> u8 {
+        let mut set = 0;
+        for (place, job) in self.jobs.iter().enumerate() {
+            if u64::from(job.period) <= longest {
+                set |= 1 << place;
             }
         }
-        sum
+        set
+    }
+
+    /// What a set of jobs leaves of the processor.
+    fn free(&self, set: u8) -> u64 {
+        let mut taken = 0;
+        for (place, share) in self.shares.iter().enumerate() {
+            if contains(set, place) {
+                taken += u64::from(*share);
+            }
+        }
+        WHOLE.saturating_sub(taken)
     }
 
     fn interference(&self, above: u8, time: u32) -> u64 {
+        self.iteration.evaluates(above);
         let mut sum = 0;
         for (place, job) in self.jobs.iter().enumerate() {
             if contains(above, place) {
@@ -102,6 +193,16 @@ fn utilisation(job: &Job) -> u32 {
         return 0;
     }
     (u64::from(job.cost) * WHOLE / u64::from(job.period)) as u32
+}
+
+/// The own demand of a job for some work of it: the work, and the quanta of the others once for each
+/// cycle of it.
+fn own_demand(work: u32, quantum: u32, others: u32) -> u64 {
+    let cycles = match quantum {
+        0 => 0,
+        _ => work.div_ceil(quantum),
+    };
+    u64::from(work) + u64::from(cycles) * u64::from(others)
 }
 
 fn other_quanta(quanta: &Quanta, layer: u8, place: usize) -> u32 {

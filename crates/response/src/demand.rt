@@ -41,6 +41,35 @@ pub(crate) fn interference(jobs: [Job; Job::MOST], above: u8, t: u32) -> u64
     sum
 }
 
+// The work of two sets of jobs.
+pub(crate) struct Works {
+    pub long: u64,
+    pub short: u64,
+}
+
+// The work of two sets of jobs within t ticks, in one pass.
+pub(crate) fn works_of(jobs: [Job; Job::MOST], long: u8, short: u8, t: u32) -> Works
+    requires { ⌜ t < 2 ^ 23 ⌝ }
+    ensures { λ r. ⌜ (r .long ≡ interference jobs (has long) t) × (r .short ≡ interference jobs (has short) t) × (r .long ≤ 2 ^ 42) × (r .short ≤ 2 ^ 42) ⌝ }
+{
+    let mut of_long: u64 = 0;
+    let mut of_short: u64 = 0;
+    let mut i = 0;
+    while i < Job::MOST {
+        if sets::contains(long, i) {
+            of_long += work(jobs[i], t);
+        }
+        if sets::contains(short, i) {
+            of_short += work(jobs[i], t);
+        }
+        i += 1;
+    }
+    Works {
+        long: of_long,
+        short: of_short,
+    }
+}
+
 // The sum of the quanta of the layer's other jobs.
 pub(crate) fn other_quanta(quanta: [u8; Job::MOST], layer: u8, job: usize) -> u32
     ensures { λ r. ⌜ (r ≡ otherQuanta mostJobs quanta (has layer) job) × (r ≤ 2 ^ 11) ⌝ }

@@ -64,8 +64,9 @@ fn climb(
     let mut t = start;
     while t < late {
         let now = t as u32;
-        let part = own + demand::interference(jobs, long, now);
-        let next = part + demand::interference(jobs, short, now);
+        let works = demand::works_of(jobs, long, short, now);
+        let part = own + works.long;
+        let next = part + works.short;
         if next <= t {
             if next == t {
                 return now;

@@ -36,53 +36,50 @@ loop-holds : tie.Need-loop-holds Inv-loop μ-loop
 loop-holds c = (refl, le-refl _)
 
 -- In a turn: the demand at t, and the part of it with long periods.
-module _ (c : tie.After-interference2 Inv-loop μ-loop) where
+module _ (c : tie.After-works-of Inv-loop μ-loop) where
   abbrev t : ℕ
-  t = c .before .before .before .loop .t
+  t = c .before .before .loop .t
 
   abbrev f : ℕ → ℕ
-  f = let a = c .before .before .before .before .args in demand (a .jobs) (a .long) (a .short) (a .own)
+  f = let a = c .before .before .before .args in demand (a .jobs) (a .long) (a .short) (a .own)
 
   abbrev g : ℕ → ℕ
-  g = let a = c .before .before .before .before .args in estimate (a .jobs) (a .long) (a .left) (a .own)
+  g = let a = c .before .before .before .args in estimate (a .jobs) (a .long) (a .left) (a .own)
 
-  part : c .before .before .before .before .args .own + c .before .interference .result ≡ c .before .before .before .before .args .own + interference (c .before .before .before .before .args .jobs) (has (c .before .before .before .before .args .long)) t
-  part = ap (λ (x : ℕ). c .before .before .before .before .args .own + x) (c .before .interference .ensures .0)
+  part : c .before .before .before .args .own + c .works-of .result .long ≡ c .before .before .before .args .own + interference (c .before .before .before .args .jobs) (has (c .before .before .before .args .long)) t
+  part = ap (λ (x : ℕ). c .before .before .before .args .own + x) (c .works-of .ensures .0)
 
-  next : c .before .before .before .before .args .own + c .before .interference .result + c .interference2 .result ≡ f t
-  next = ap₂ (λ (x y : ℕ). x + y) part (c .interference2 .ensures .0)
+  next : c .before .before .before .args .own + c .works-of .result .long + c .works-of .result .short ≡ f t
+  next = ap₂ (λ (x y : ℕ). x + y) part (c .works-of .ensures .1)
 
 cast-now : tie.Need-cast-now Inv-loop μ-loop
 cast-now c = search needs
 
-interference-requires : tie.Need-interference-requires Inv-loop μ-loop
-interference-requires c κs = search needs
+works-of-requires : tie.Need-works-of-requires Inv-loop μ-loop
+works-of-requires c κs = search needs
 
 add-part : tie.Need-add-part Inv-loop μ-loop
 add-part c = search needs
-
-interference-requires-2 : tie.Need-interference-requires-2 Inv-loop μ-loop
-interference-requires-2 c κs = search needs
 
 add-next : tie.Need-add-next Inv-loop μ-loop
 add-next c = search needs
 
 returns : tie.Need-returns Inv-loop μ-loop
 returns c =
-    let p = c .before .before in
-    let l = p .before .before .before .loop in
-    let h = p .before .before .loop-test .taken in
+    let p = c .before .before .before .before in
+    let l = p .before .before .loop in
+    let h = p .before .loop-test .taken in
     (sym (l .inv .0 ∙ loop-found (f p) (g p) _ (omega (arith, h)) (sym (next p) ∙ c .if2 .taken)), omega (arith, h), λ e. l .inv .1)
 
 returns-2 : tie.Need-returns-2 Inv-loop μ-loop
 returns-2 c =
-    let p = c .before .before in
-    let l = p .before .before .before .loop in
-    (sym (l .inv .0 ∙ loop-falls (f p) (g p) _ (omega (arith, p .before .before .loop-test .taken)) (omega (arith, next p, c .before .if1 .taken)) (λ e. c .if2 .left (next p ∙ e))), omega arith, λ e. absurd (omega arith))
+    let p = c .before .before .before .before in
+    let l = p .before .before .loop in
+    (sym (l .inv .0 ∙ loop-falls (f p) (g p) _ (omega (arith, p .before .loop-test .taken)) (omega (arith, next p, c .before .if1 .taken)) (λ e. c .if2 .left (next p ∙ e))), omega arith, λ e. absurd (omega arith))
 
 mul-later : tie.Need-mul-later Inv-loop μ-loop
 mul-later c =
-    let p = c .before in omega (arith, p .before .interference .ensures .1, p .before .before .before .before .pre .1)
+    let p = c .before .before .before in omega (arith, p .works-of .ensures .2, p .before .before .before .pre .1)
 
 div-later : tie.Need-div-later Inv-loop μ-loop
 div-later c = search needs
@@ -92,16 +89,16 @@ later-requires c κs = search needs
 
 loop-less : tie.Need-loop-less Inv-loop μ-loop
 loop-less c =
-    let p = c .before .before in omega (arith, c .later .ensures, c .before .if1 .left, p .before .before .loop-test .taken)
+    let p = c .before .before .before .before in omega (arith, c .later .ensures, c .before .if1 .left, p .before .loop-test .taken)
 
 loop-again : tie.Need-loop-again Inv-loop μ-loop
 loop-again c =
-    let p = c .before .before in
-    let l = p .before .before .before .loop in
-    let a = p .before .before .before .before .args in
+    let p = c .before .before .before .before in
+    let l = p .before .before .loop in
+    let a = p .before .before .before .args in
     let moved : c .later .result ≡ max (f p (t p)) (g p (t p)) = c .later .ensures ∙ ap₂ max (next p) (ap (λ (x : ℕ). x * whole / a .left) (part p)) in (
       l .inv .0
-          ∙ loop-rises (f p) (g p) _ (omega (arith, p .before .before .loop-test .taken)) (omega (arith, next p, c .before .if1 .left))
+          ∙ loop-rises (f p) (g p) _ (omega (arith, p .before .loop-test .taken)) (omega (arith, next p, c .before .if1 .left))
           ∙ sym (ap (climb (f p) (g p) (a .limit) (suc (a .limit))) moved),
       omega (arith, c .later .ensures, c .before .if1 .left, l .inv .1),
     )
@@ -119,9 +116,8 @@ climb-spec =
     add-late
     loop-holds
     cast-now
-    interference-requires
+    works-of-requires
     add-part
-    interference-requires-2
     add-next
     returns
     returns-2
