@@ -6,7 +6,6 @@ ghost use Rattle.response.specs.Search.{whole, ownDemand, largestBy, run
 use crate::demand;
 use crate::search;
 use crate::workload::WHOLE;
-use crate::workload::Workload;
 use records::job::Job;
 
 // The most instances that a bound goes over.
@@ -37,7 +36,8 @@ fn own_demand(cost: u32, count: u32, quantum: u8, others: u32) -> u64
 // The largest response of a job up to the first instance that finishes by its next release; 0 where a finish does not exist by the
 // instance's deadline, or where the last instance still runs past its next release.
 pub(crate) fn largest_response(
-    workload: Workload,
+    jobs: [Job; Job::MOST],
+    shares: [u32; Job::MOST],
     above: u8,
     left: u64,
     quantum: u8,
@@ -45,7 +45,7 @@ pub(crate) fn largest_response(
     job: Job,
 ) -> u16
     requires { ⌜ others ≤ 2 ^ 11 ⌝ }
-    ensures { λ r. ⌜ r ≡ largestBy workload (has above) left quantum others job ⌝ }
+    ensures { λ r. ⌜ r ≡ largestBy (record { jobs = jobs; shares = shares }) (has above) left quantum others job ⌝ }
 {
     let cost = job.cost as u32;
     let period = job.period as u32;
@@ -56,7 +56,7 @@ pub(crate) fn largest_response(
     while instance < INSTANCES {
         let release = instance * period;
         let own = own_demand(cost, instance + 1, quantum, others);
-        let finish = search::time_for(workload, above, left, own, release + deadline, before);
+        let finish = search::time_for(jobs, shares, above, left, own, release + deadline, before);
         if finish == 0 {
             return 0;
         }

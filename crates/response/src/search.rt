@@ -10,7 +10,6 @@ ghost use Rattle.response.specs.Search.{whole, climb, farTime, timeFrom,
 use crate::demand;
 use crate::workload;
 use crate::workload::WHOLE;
-use crate::workload::Workload;
 use records::job::Job;
 
 // The plain steps before estimates are made: most searches end within them.
@@ -79,12 +78,17 @@ fn climb(
 }
 
 // The least time from a start up to a limit that equals the own demand with the interference of the set above, or 0.
-fn far_time(workload: Workload, above: u8, own: u64, limit: u32, start: u64) -> u32
+fn far_time(
+    jobs: [Job; Job::MOST],
+    shares: [u32; Job::MOST],
+    above: u8,
+    own: u64,
+    limit: u32,
+    start: u64,
+) -> u32
     requires { ⌜ (own < 2 ^ 40) × (limit < 2 ^ 23) ⌝ }
-    ensures { λ r. ⌜ (r ≡ farTime workload (has above) own limit start) × (r ≤ limit) × ((r ≡ 0 → ⊥) → start ≤ r) ⌝ }
+    ensures { λ r. ⌜ (r ≡ farTime (record { jobs = jobs; shares = shares }) (has above) own limit start) × (r ≤ limit) × ((r ≡ 0 → ⊥) → start ≤ r) ⌝ }
 {
-    let jobs = workload.jobs;
-    let shares = workload.shares;
     let long = sets::rest(above, short_jobs(jobs, start / SHORT_PART));
     let short = sets::rest(above, long);
     let left = later(1, workload::free(shares, short));
@@ -92,11 +96,17 @@ fn far_time(workload: Workload, above: u8, own: u64, limit: u32, start: u64) -> 
 }
 
 // The same, after some plain steps.
-fn time_from(workload: Workload, above: u8, own: u64, limit: u32, start: u64) -> u32
+fn time_from(
+    jobs: [Job; Job::MOST],
+    shares: [u32; Job::MOST],
+    above: u8,
+    own: u64,
+    limit: u32,
+    start: u64,
+) -> u32
     requires { ⌜ (own < 2 ^ 40) × (limit < 2 ^ 23) ⌝ }
-    ensures { λ r. ⌜ (r ≡ timeFrom workload (has above) own limit start) × (r ≤ limit) × ((r ≡ 0 → ⊥) → start ≤ r) ⌝ }
+    ensures { λ r. ⌜ (r ≡ timeFrom (record { jobs = jobs; shares = shares }) (has above) own limit start) × (r ≤ limit) × ((r ≡ 0 → ⊥) → start ≤ r) ⌝ }
 {
-    let jobs = workload.jobs;
     let late = limit as u64 + 1;
     let mut t = start;
     let mut step: u32 = 0;
@@ -115,13 +125,14 @@ fn time_from(workload: Workload, above: u8, own: u64, limit: u32, start: u64) ->
         t = next;
         step += 1;
     }
-    far_time(workload, above, own, limit, t)
+    far_time(jobs, shares, above, own, limit, t)
 }
 
 // The least time up to a limit that equals the own demand with the interference of the set above, which leaves some of the processor, or
 // 0; no such time is below `before`.
 pub(crate) fn time_for(
-    workload: Workload,
+    jobs: [Job; Job::MOST],
+    shares: [u32; Job::MOST],
     above: u8,
     left: u64,
     own: u64,
@@ -129,7 +140,7 @@ pub(crate) fn time_for(
     before: u32,
 ) -> u32
     requires { ⌜ (own < 2 ^ 40) × (limit < 2 ^ 23) ⌝ }
-    ensures { λ r. ⌜ (r ≡ timeFor workload (has above) left own limit before) × (r ≤ limit) × ((r ≡ 0 → ⊥) → before ≤ r) ⌝ }
+    ensures { λ r. ⌜ (r ≡ timeFor (record { jobs = jobs; shares = shares }) (has above) left own limit before) × (r ≤ limit) × ((r ≡ 0 → ⊥) → before ≤ r) ⌝ }
 {
     let mut t: u64 = 1;
     if own != 0 {
@@ -138,5 +149,5 @@ pub(crate) fn time_for(
         }
         t = own * WHOLE / left;
     }
-    time_from(workload, above, own, limit, later(t, before as u64))
+    time_from(jobs, shares, above, own, limit, later(t, before as u64))
 }

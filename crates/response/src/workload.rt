@@ -83,6 +83,6 @@ impl Workload {
         if instances::runs_on(left, quantum, others, entry) {
             return 0;
         }
-        instances::largest_response(self, above, left, quantum, others, entry)
+        instances::largest_response(self.jobs, self.shares, above, left, quantum, others, entry)
     }
 }

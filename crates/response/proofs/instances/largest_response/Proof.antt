@@ -7,7 +7,7 @@ use mir.Val.{Fits}
 use mir.Syntax.{w16}
 use Rattle.sets.specs.Sets.{has}
 use Rattle.records.specs.declared.job.Job.{Job}
-use Rattle.response.specs.declared.workload.Workload.{Workload}
+use mathlib.Core.List.{List}
 use Rattle.response.specs.Demand.{mostInstances}
 use Rattle.response.specs.Search.{timeFor, ownDemand, finishBy, runBy}
 use Rattle.response.proofs.Runs.{turn-none, turn-closed, turn-open, turn-out}
@@ -16,18 +16,18 @@ use Rattle.response.proofs.instances.largest_response.Statement.{statem
 use Rattle.response.proofs.instances.largest_response.Tie as tie
 
 -- The finish of an instance, from a time on.
-abbrev found : Workload → ℕ → ℕ → ℕ → ℕ → ℕ → ℕ → ℕ → ℕ → ℕ → ℕ
-found workload above left quantum others cost period deadline = finishBy workload (has above) left quantum others cost period deadline
+abbrev found : List Job → List ℕ → ℕ → ℕ → ℕ → ℕ → ℕ → ℕ → ℕ → ℕ → ℕ → ℕ
+found jobs shares above left quantum others cost period deadline = finishBy (record { jobs = jobs; shares = shares }) (has above) left quantum others cost period deadline
 
 -- What is sought is what the run from this instance on finds; each instance so far has finished after the release of the next.
 abbrev Inv-loop : tie.InvT-loop
-Inv-loop workload above left quantum others cost period deadline largest₀ before₀ instance₀ largest before instance =
+Inv-loop jobs shares above left quantum others cost period deadline largest₀ before₀ instance₀ largest before instance =
     (instance ≤ mostInstances) × (largest ≤ deadline) × (instance * period ≤ before)
-    × (runBy (found workload above left quantum others cost period deadline) period mostInstances 0 0 0
-    ≡ runBy (found workload above left quantum others cost period deadline) period (mostInstances - instance) instance before largest)
+    × (runBy (found jobs shares above left quantum others cost period deadline) period mostInstances 0 0 0
+    ≡ runBy (found jobs shares above left quantum others cost period deadline) period (mostInstances - instance) instance before largest)
 
 abbrev μ-loop : tie.MeasureT-loop
-μ-loop workload above left quantum others cost period deadline largest₀ before₀ instance₀ largest before instance = mostInstances - instance
+μ-loop jobs shares above left quantum others cost period deadline largest₀ before₀ instance₀ largest before instance = mostInstances - instance
 
 cast-cost : tie.Need-cast-cost Inv-loop μ-loop
 cast-cost c = search needs
@@ -84,7 +84,7 @@ module _ (c : tie.After-time-for Inv-loop μ-loop) where
   abbrev finishes : ℕ → ℕ → ℕ
   finishes =
       let a = c .before .before .before .before .before .before .before .args in
-      found (a .workload) (a .above) (a .left) (a .quantum) (a .others) (job .cost) (job .period) (job .deadline)
+      found (a .jobs) (a .shares) (a .above) (a .left) (a .quantum) (a .others) (job .cost) (job .period) (job .deadline)
 
   one-more : instance + 1 ≡ suc instance
   one-more = omega arith
@@ -96,7 +96,7 @@ module _ (c : tie.After-time-for Inv-loop μ-loop) where
       let own : c .before .own-demand .result ≡ ownDemand (a .quantum) (a .others) (suc instance * job .cost) =
       c .before .own-demand .ensures .0 ∙ ap (λ (n : ℕ). ownDemand (a .quantum) (a .others) (n * job .cost)) one-more in
       c .time-for .ensures .0
-      ∙ ap (λ (x : ℕ). timeFor (a .workload) (has (a .above)) (a .left) x (instance * job .period + job .deadline) before) own
+      ∙ ap (λ (x : ℕ). timeFor (record { jobs = a .jobs; shares = a .shares }) (has (a .above)) (a .left) x (instance * job .period + job .deadline) before) own
 
 returns : tie.Need-returns Inv-loop μ-loop
 returns c =
@@ -172,7 +172,7 @@ returns-3 c =
     let l = c .before .loop in
     let e : mostInstances - l .instance ≡ 0 = omega (arith, c .loop-test .left) in
     let a = c .before .before .before .before .before .args in
-    let f = found (a .workload) (a .above) (a .left) (a .quantum) (a .others) (a .job .cost) (a .job .period) (a .job .deadline) in
+    let f = found (a .jobs) (a .shares) (a .above) (a .left) (a .quantum) (a .others) (a .job .cost) (a .job .period) (a .job .deadline) in
     sym (l .inv .3 ∙ ap (λ (n : ℕ). runBy f (a .job .period) n (l .instance) (l .before) (l .largest)) e ∙ turn-out f (a .job .period) (l .instance) (l .before) (l .largest))
 
 pub largest-response-spec : {M : Type 1} → statement M

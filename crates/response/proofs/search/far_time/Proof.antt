@@ -2,7 +2,7 @@ use Prim.Native.Nat.{ℕ, suc, _+_, _*_, _/_, max}
 use mathlib.Core.Path.{_≡_, _∙_, ap, ap₂, fun-ext}
 use native.Mathlib.Omega.{arith}
 use lib.Dec.{leb}
-use lib.ListN.{length, length-map}
+use lib.ListN.{length}
 use Rattle.sets.specs.Sets.{has}
 use Rattle.records.specs.Limits.{mostJobs}
 use Rattle.records.specs.Jobs.{jobAt}
@@ -32,23 +32,17 @@ later-requires c κs = search needs
 climb-requires : tie.Need-climb-requires
 climb-requires c κs = (omega (arith, c .later .ensures), search needs, search needs)
 
-size : (c : tie.Start) → length (c .args .workload .jobs) ≡ mostJobs
-size c = simp length-map at (c .good .0 .1 .1 .0 .1 .0 .1)
-
-size-of-shares : (c : tie.Start) → length (c .args .workload .shares) ≡ mostJobs
-size-of-shares c = simp length-map at (c .good .0 .1 .1 .1 .0 .1 .0 .1)
-
 returns : tie.Need-returns
 unfolding farTime estimate
 returns c =
     let v = c .before .before in
     let s = v .before .before .before in
-    let a = s .before .before .before .args in
-    let jobs = a .workload .jobs in
-    let shares = a .workload .shares in
+    let a = s .before .args in
+    let jobs = a .jobs in
+    let shares = a .shares in
     let longest = a .start / shortPart in
-    let eight : length jobs ≡ mostJobs = size (s .before .before .before) in
-    let as-many : length shares ≡ mostJobs = size-of-shares (s .before .before .before) in
+    let eight : length jobs ≡ mostJobs = search needs in
+    let as-many : length shares ≡ mostJobs = search needs in
     let long = long-part jobs (a .above) (s .short-jobs .result) (v .before .before .rest .result) (v .before .rest2 .result) longest (s .short-jobs .ensures) (v .before .before .rest .ensures) (v .before .rest2 .ensures) in
     let short = short-part jobs (a .above) (s .short-jobs .result) (v .before .before .rest .result) (v .before .rest2 .result) longest (s .short-jobs .ensures) (v .before .before .rest .ensures) (v .before .rest2 .ensures) in
     let f : (t : ℕ) → a .own + interference jobs (has (v .before .before .rest .result)) t + interference jobs (has (v .before .rest2 .result)) t ≡ a .own + interference jobs (has (a .above)) t =
@@ -60,7 +54,7 @@ returns c =
     ) in
     let left : c .before .later .result ≡ max 1 (free shares (shortOf jobs (has (a .above)) longest)) =
     c .before .later .ensures ∙ ap (max 1) (v .free .ensures .0 ∙ free-same shares _ _ (λ i l. short i (omega arith))) in
-    let g : (t : ℕ) → (a .own + interference jobs (has (v .before .before .rest .result)) t) * whole / c .before .later .result ≡ estimate (a .workload) (has (a .above)) longest (a .own) t =
+    let g : (t : ℕ) → (a .own + interference jobs (has (v .before .before .rest .result)) t) * whole / c .before .later .result ≡ estimate (record { jobs = a .jobs; shares = a .shares }) (has (a .above)) longest (a .own) t =
     λ t. ap₂ (λ (x y : ℕ). (a .own + x) * whole / y) (interference-same jobs _ (longOf jobs (has (a .above)) longest) t (λ i l. long i (omega arith))) left in
     (c .climb .ensures .0 ∙ ap₂ (λ (f g : ℕ → ℕ). climb f g (a .limit) (suc (a .limit)) (a .start)) (fun-ext f) (fun-ext g), c .climb .ensures .1, c .climb .ensures .2)
 

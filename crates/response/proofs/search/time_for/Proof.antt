@@ -12,7 +12,7 @@ use Rattle.response.proofs.search.time_for.Tie as tie
 returns : tie.Need-returns
 returns c =
     let a = c .before .before .args in
-    (sym (time-full (a .workload) (has (a .above)) (a .left) (a .own) (a .limit) (a .before) (c .before .if1 .taken) (c .if2 .taken)), omega arith, λ e. absurd (omega arith))
+    (sym (time-full (record { jobs = a .jobs; shares = a .shares }) (has (a .above)) (a .left) (a .own) (a .limit) (a .before) (c .before .if1 .taken) (c .if2 .taken)), omega arith, λ e. absurd (omega arith))
 
 mul-t : tie.Need-mul-t
 mul-t c = search needs
@@ -31,12 +31,12 @@ returns-2 c =
     let l = c .before in
     let s = l .before .before in
     let a = s .args in
-    let start : ℕ → ℕ = λ t. timeFrom (a .workload) (has (a .above)) (a .own) (a .limit) (max t (a .before)) in (
+    let start : ℕ → ℕ = λ t. timeFrom (record { jobs = a .jobs; shares = a .shares }) (has (a .above)) (a .own) (a .limit) (max t (a .before)) in (
       c .time-from .ensures .0
-          ∙ ap (timeFrom (a .workload) (has (a .above)) (a .own) (a .limit)) (l .later .ensures)
+          ∙ ap (timeFrom (record { jobs = a .jobs; shares = a .shares }) (has (a .above)) (a .own) (a .limit)) (l .later .ensures)
           ∙ ⊎-elim
-          (λ w. ap start (w .2) ∙ sym (time-start (a .workload) (has (a .above)) (a .left) (a .own) (a .limit) (a .before) (w .0 .taken) (w .1 .left)))
-          (λ w. ap start (w .1) ∙ sym (time-idle (a .workload) (has (a .above)) (a .left) (a .own) (a .limit) (a .before) (w .0 .left)))
+          (λ w. ap start (w .2) ∙ sym (time-start (record { jobs = a .jobs; shares = a .shares }) (has (a .above)) (a .left) (a .own) (a .limit) (a .before) (w .0 .taken) (w .1 .left)))
+          (λ w. ap start (w .1) ∙ sym (time-idle (record { jobs = a .jobs; shares = a .shares }) (has (a .above)) (a .left) (a .own) (a .limit) (a .before) (w .0 .left)))
           (l .before .if1 .came),
       c .time-from .ensures .1,
       λ e. omega (arith, l .later .ensures, c .time-from .ensures .2 e),

@@ -12,14 +12,14 @@ use Rattle.response.proofs.search.time_from.Tie as tie
 
 -- What is sought is what is found from t on after the plain steps that are left, and t is not before the start.
 abbrev Inv-loop : tie.InvT-loop
-Inv-loop workload above own limit start jobs late t₀ step₀ t step =
+Inv-loop jobs shares above own limit start late t₀ step₀ t step =
     (step ≤ plainSteps)
-    × (timeFrom workload (has above) own limit start
-    ≡ farTime workload (has above) own limit (steps (λ x. own + interference (workload .jobs) (has above) x) limit (plainSteps - step) t))
+    × (timeFrom (record { jobs = jobs; shares = shares }) (has above) own limit start
+    ≡ farTime (record { jobs = jobs; shares = shares }) (has above) own limit (steps (λ x. own + interference jobs (has above) x) limit (plainSteps - step) t))
     × (start ≤ t)
 
 abbrev μ-loop : tie.MeasureT-loop
-μ-loop workload above own limit start jobs late t₀ step₀ t step = plainSteps - step
+μ-loop jobs shares above own limit start late t₀ step₀ t step = plainSteps - step
 
 add-late : tie.Need-add-late Inv-loop μ-loop
 add-late c = search needs
@@ -32,11 +32,11 @@ returns : tie.Need-returns Inv-loop μ-loop
 unfolding farTime
 returns c =
     let l = c .before .before .loop in
-    let s = c .before .before .before .before in
+    let s = c .before .before .before in
     let a = s .args in
-    let f : ℕ → ℕ = λ x. a .own + interference (a .workload .jobs) (has (a .above)) x in
+    let f : ℕ → ℕ = λ x. a .own + interference (a .jobs) (has (a .above)) x in
     let past : a .limit < l .t = omega (arith, c .if1 .taken) in
-    (sym (l .inv .1 ∙ ap (farTime (a .workload) (has (a .above)) (a .own) (a .limit)) (steps-past f (a .limit) (plainSteps - l .step) past) ∙ loop-past f _ (a .limit) past), omega arith, λ e. absurd (omega arith))
+    (sym (l .inv .1 ∙ ap (farTime (record { jobs = a .jobs; shares = a .shares }) (has (a .above)) (a .own) (a .limit)) (steps-past f (a .limit) (plainSteps - l .step) past) ∙ loop-past f _ (a .limit) past), omega arith, λ e. absurd (omega arith))
 
 cast-now : tie.Need-cast-now Inv-loop μ-loop
 cast-now c = search needs
@@ -50,16 +50,16 @@ module _ (c : tie.After-interference Inv-loop μ-loop) where
   t = c .before .before .before .loop .t
 
   abbrev limit : ℕ
-  limit = c .before .before .before .before .before .args .limit
+  limit = c .before .before .before .before .args .limit
 
   abbrev f : ℕ → ℕ
-  f x = let a = c .before .before .before .before .before .args in a .own + interference (a .workload .jobs) (has (a .above)) x
+  f x = let a = c .before .before .before .before .args in a .own + interference (a .jobs) (has (a .above)) x
 
   abbrev far : ℕ → ℕ
-  far = let a = c .before .before .before .before .before .args in farTime (a .workload) (has (a .above)) (a .own) (a .limit)
+  far = let a = c .before .before .before .before .args in farTime (record { jobs = a .jobs; shares = a .shares }) (has (a .above)) (a .own) (a .limit)
 
-  next : c .before .before .before .before .before .args .own + c .interference .result ≡ f t
-  next = ap (λ (x : ℕ). c .before .before .before .before .before .args .own + x) (c .interference .ensures .0)
+  next : c .before .before .before .before .args .own + c .interference .result ≡ f t
+  next = ap (λ (x : ℕ). c .before .before .before .before .args .own + x) (c .interference .ensures .0)
 
   reach : t ≤ limit
   reach = omega (arith, c .before .if1 .left)
@@ -109,12 +109,12 @@ far-time-requires c κs = search needs
 returns-4 : tie.Need-returns-4 Inv-loop μ-loop
 returns-4 c =
     let l = c .before .before .loop in
-    let s = c .before .before .before .before in
+    let s = c .before .before .before in
     let a = s .args in
-    let f : ℕ → ℕ = λ x. a .own + interference (a .workload .jobs) (has (a .above)) x in
+    let f : ℕ → ℕ = λ x. a .own + interference (a .jobs) (has (a .above)) x in
     let none : plainSteps - l .step ≡ 0 = omega (arith, c .before .loop-test .left) in (
       c .far-time .ensures .0
-          ∙ sym (l .inv .1 ∙ ap (farTime (a .workload) (has (a .above)) (a .own) (a .limit)) (ap (λ (n : ℕ). steps f (a .limit) n (l .t)) none ∙ steps-none f (a .limit) (l .t))),
+          ∙ sym (l .inv .1 ∙ ap (farTime (record { jobs = a .jobs; shares = a .shares }) (has (a .above)) (a .own) (a .limit)) (ap (λ (n : ℕ). steps f (a .limit) n (l .t)) none ∙ steps-none f (a .limit) (l .t))),
       c .far-time .ensures .1,
       λ e. omega (arith, l .inv .2, c .far-time .ensures .2 e),
     )

@@ -61,11 +61,11 @@ largest-response-requires c κs = search needs
 
 returns-3 : tie.Need-returns-3
 returns-3 c =
-    let r = c .before .before in
+    let r = c .before .before .before .before in
     let a = start r .args in
     c .largest-response .ensures
     ∙ ap₂ (λ (left others : ℕ). largestBy (a .t1) (has (a .above)) left (getD (a .t2) (a .job) 0) others (jobAt (a .t1 .jobs) (a .job))) (r .before .free .ensures .0) (others r)
-    ∙ sym (bound-runs (a .t1) (a .t2) (has (a .layer)) (has (a .above)) (a .job) (sym (runs r) ∙ c .before .if2 .left))
+    ∙ sym (bound-runs (a .t1) (a .t2) (has (a .layer)) (has (a .above)) (a .job) (sym (runs r) ∙ c .before .before .before .if2 .left))
 
 pub bound-spec : {M : Type 1} → statement M
 bound-spec =
