@@ -6,7 +6,7 @@ ghost use Rattle.sets.specs.Sets.{has, Collects};
 ghost use Rattle.records.specs.Limits.{mostJobs};
 ghost use Rattle.records.specs.Jobs.{jobAt};
 ghost use Rattle.response.specs.Demand.{interference};
-ghost use Rattle.response.specs.Search.{whole, climb, farTime, timeFrom, timeFor};
+ghost use Rattle.response.specs.Search.{whole, climb, farTime, timeFor};
 use crate::demand;
 use crate::workload;
 use crate::workload::WHOLE;
@@ -59,9 +59,9 @@ fn climb(
     requires { ⌜ (0 < left) × (own < 2 ^ 40) × (limit < 2 ^ 23) ⌝ }
     ensures { λ r. ⌜ (r ≡ climb (λ t. own + interference jobs (has long) t + interference jobs (has short) t) (λ t. (own + interference jobs (has long) t) * whole / left) limit (suc limit) start) × (r ≤ limit) × ((r ≡ 0 → ⊥) → start ≤ r) ⌝ }
 {
-    let late = limit as u64 + 1;
+    let end = limit as u64 + 1;
     let mut t = start;
-    while t < late {
+    while t < end {
         let now = t as u32;
         let works = demand::works_of(jobs, long, short, now);
         let part = own + works.long;
@@ -95,39 +95,6 @@ fn far_time(
     climb(jobs, long, short, left, own, limit, start)
 }
 
-// The same, after some plain steps.
-fn time_from(
-    jobs: [Job; Job::MOST],
-    shares: [u32; Job::MOST],
-    above: u8,
-    own: u64,
-    limit: u32,
-    start: u64,
-) -> u32
-    requires { ⌜ (own < 2 ^ 40) × (limit < 2 ^ 23) ⌝ }
-    ensures { λ r. ⌜ (r ≡ timeFrom (record { jobs = jobs; shares = shares }) (has above) own limit start) × (r ≤ limit) × ((r ≡ 0 → ⊥) → start ≤ r) ⌝ }
-{
-    let late = limit as u64 + 1;
-    let mut t = start;
-    let mut step: u32 = 0;
-    while step < PLAIN_STEPS {
-        if late <= t {
-            return 0;
-        }
-        let now = t as u32;
-        let next = own + demand::interference(jobs, above, now);
-        if next <= t {
-            if next == t {
-                return now;
-            }
-            return 0;
-        }
-        t = next;
-        step += 1;
-    }
-    far_time(jobs, shares, above, own, limit, t)
-}
-
 // The least time up to a limit that equals the own demand with the interference of the set above, which leaves some of the processor, or
 // 0; no such time is below `before`.
 pub(crate) fn time_for(
@@ -149,5 +116,23 @@ pub(crate) fn time_for(
         }
         t = own * WHOLE / left;
     }
-    time_from(jobs, shares, above, own, limit, later(t, before as u64))
+    t = later(t, before as u64);
+    let late = limit as u64 + 1;
+    let mut step: u32 = 0;
+    while step < PLAIN_STEPS {
+        if late <= t {
+            return 0;
+        }
+        let now = t as u32;
+        let next = own + demand::interference(jobs, above, now);
+        if next <= t {
+            if next == t {
+                return now;
+            }
+            return 0;
+        }
+        t = next;
+        step += 1;
+    }
+    far_time(jobs, shares, above, own, limit, t)
 }

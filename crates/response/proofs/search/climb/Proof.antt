@@ -21,16 +21,16 @@ estimate jobs long left own t = (own + interference jobs (has long) t) * whole /
 
 -- What is sought is what the iteration finds from t on, and t is not before the start.
 abbrev Inv-loop : tie.InvT-loop
-Inv-loop jobs long short left own limit start late t₀ t =
+Inv-loop jobs long short left own limit start end t₀ t =
     (climb (demand jobs long short own) (estimate jobs long left own) limit (suc limit) start
     ≡ climb (demand jobs long short own) (estimate jobs long left own) limit (suc limit) t)
     × (start ≤ t)
 
 abbrev μ-loop : tie.MeasureT-loop
-μ-loop jobs long short left own limit start late t₀ t = limit + 1 - t
+μ-loop jobs long short left own limit start end t₀ t = limit + 1 - t
 
-add-late : tie.Need-add-late Inv-loop μ-loop
-add-late c = search needs
+add-end : tie.Need-add-end Inv-loop μ-loop
+add-end c = search needs
 
 loop-holds : tie.Need-loop-holds Inv-loop μ-loop
 loop-holds c = (refl, le-refl _)
@@ -113,7 +113,7 @@ climb-spec =
     (tie.spec
     Inv-loop
     μ-loop
-    add-late
+    add-end
     loop-holds
     cast-now
     works-of-requires
