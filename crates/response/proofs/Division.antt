@@ -1,7 +1,7 @@
 -- Laws of division rounded up. Assumes nothing.
 use Prim.Native.Nat.{ℕ, zero, suc, _+_, _*_, _/_, _-_, _^_, _≤_, _<_, zero-le}
 use mathlib.Core.Path.{_≡_, _∙_}
-use native.Mathlib.Nat.{le-refl, le-trans, mul-le-mul, mul-le-mul-left, mul-le-mul-right, le-div-iff-mul-le, div-mul-le-self, div-zero, div-le-self, zero-lt-suc, lt-mul-div-succ, div-lt-iff-lt-mul, mul-comm, add-mul}
+use native.Mathlib.Nat.{le-refl, le-trans, mul-le-mul, mul-le-mul-left, mul-le-mul-right, le-div-iff-mul-le, div-mul-le-self, div-zero, zero-lt-suc, lt-mul-div-succ, div-lt-iff-lt-mul, mul-comm, add-mul}
 use native.Mathlib.Omega.{arith}
 use Rattle.response.specs.Demand.{ceilDiv}
 
@@ -49,12 +49,6 @@ ceil-one t (suc y) = le-trans (ceil-le t (suc y)) (omega (arith, mul-le-mul-left
   where
     one : 1 ≤ (1 + (suc y - 1)) / suc y
     one = le-div-iff-mul-le (zero-lt-suc y) .1 (omega arith)
-
--- ---- what fits
-
-pub ceil-lt : (x y : ℕ) → x < 2 ^ 31 → y < 2 ^ 16 → ceilDiv x y < 2 ^ 31 + 2 ^ 16
-unfolding ceilDiv
-ceil-lt x y hx hy = omega (arith, div-le-self (x + (y - 1)) y)
 
 -- The product of a quotient and a 16-bit number.
 pub product-lt : (x y : ℕ) → x < 2 ^ 23 → y < 2 ^ 16 → x * y < 2 ^ 39

@@ -9,7 +9,7 @@ use records::job::Job;
 // a divided by b, rounded up; 0 where b is 0.
 pub(crate) fn ceil_div(a: u32, b: u32) -> u32
     requires { ⌜ (a < 2 ^ 31) × (b < 2 ^ 16) ⌝ }
-    ensures { λ r. ⌜ (r ≡ ceilDiv a b) × (r < 2 ^ 31 + 2 ^ 16) ⌝ }
+    ensures { λ r. ⌜ (r ≡ ceilDiv a b) × (r ≤ a) ⌝ }
 {
     if b == 0 {
         return 0;

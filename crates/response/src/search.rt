@@ -12,7 +12,7 @@ use crate::workload;
 use crate::workload::WHOLE;
 use records::job::Job;
 
-// The plain steps before estimates are made: most searches end within them.
+// The plain steps before estimates are made, so that short searches need none.
 const PLAIN_STEPS: u32 = 4;
 
 // The part of a time up to which a period counts as short.

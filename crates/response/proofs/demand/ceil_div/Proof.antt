@@ -1,7 +1,7 @@
 use mathlib.Core.Path.{refl, sym}
 use native.Mathlib.Omega.{arith}
 use Rattle.response.specs.Demand.{ceilDiv}
-use Rattle.response.proofs.Division.{ceil-zero, ceil-lt}
+use Rattle.response.proofs.Division.{ceil-zero, ceil-le}
 use borrow.Author.Needs.{needs}
 use Rattle.response.proofs.demand.ceil_div.Statement.{statement}
 use Rattle.response.proofs.demand.ceil_div.Tie as tie
@@ -22,7 +22,7 @@ returns-2 : tie.Need-returns-2
 unfolding ceilDiv
 returns-2 c =
     let a = c .before .args in
-    (refl, ceil-lt (a .a) (a .b) (c .before .pre .0) (c .before .pre .1))
+    (refl, ceil-le (a .a) (a .b))
 
 pub ceil-div-spec : {M : Type 1} → statement M
 ceil-div-spec = tie.close (tie.spec returns sub-result add-result div-result returns-2)

@@ -2,7 +2,7 @@ use Prim.Native.Nat.{ℕ, _*_, _^_, _<_}
 use mathlib.Core.Path.{ap}
 use native.Mathlib.Omega.{arith}
 use Rattle.response.specs.Demand.{work}
-use Rattle.response.proofs.Division.{ceil-le, product-lt}
+use Rattle.response.proofs.Division.{product-lt}
 use borrow.Author.Needs.{needs}
 use Rattle.response.proofs.demand.work.Statement.{statement}
 use Rattle.response.proofs.demand.work.Tie as tie
@@ -20,9 +20,7 @@ cast-result-2 : tie.Need-cast-result-2
 cast-result-2 c = search needs
 
 quotient : (c : tie.After-ceil-div) → c .ceil-div .result < 2 ^ 23
-quotient c =
-    let s = c .before .before in
-    omega (arith, c .ceil-div .ensures .0, ceil-le (s .args .t) (s .args .job .period), s .pre)
+quotient c = omega (arith, c .ceil-div .ensures .1, c .before .before .pre)
 
 mul-result : tie.Need-mul-result
 mul-result c = omega (arith, product-lt (c .before .ceil-div .result) (c .before .before .before .args .job .cost) (quotient (c .before)) (search needs))

@@ -3,7 +3,6 @@ use mathlib.Core.Path.{ap}
 use native.Mathlib.Nat.{mul-le-mul}
 use native.Mathlib.Omega.{arith}
 use Rattle.response.specs.Search.{ownDemand}
-use Rattle.response.proofs.Division.{ceil-le}
 use borrow.Author.Needs.{needs}
 use borrow.Author.Needs.{needs}
 use Rattle.response.proofs.instances.own_demand.Statement.{statement}
@@ -13,7 +12,7 @@ use Rattle.response.proofs.instances.own_demand.Tie as tie
 work-fits : (cost count : ℕ) → cost < 2 ^ 16 → count ≤ 64 → count * cost < 2 ^ 22
 work-fits cost count hc hn = let m : count * cost ≤ 64 * 65535 = mul-le-mul {n₂ = 64} {m₂ = 65535} hn (omega arith) in omega arith
 
-cycles-fit : (work cycles others : ℕ) → work < 2 ^ 22 → cycles ≤ work → others ≤ 2 ^ 11 → work + cycles * others < 2 ^ 34
+cycles-fit : (work cycles others : ℕ) → work < 2 ^ 22 → cycles < 2 ^ 22 → others ≤ 2 ^ 11 → work + cycles * others < 2 ^ 34
 cycles-fit work cycles others hw hy ho =
     let m : cycles * others ≤ 4194303 * 2048 = mul-le-mul {n₂ = 4194303} {m₂ = 2048} (omega arith) ho in omega arith
 
@@ -32,9 +31,8 @@ cast-result-2 c = search needs
 fits : (c : tie.After-ceil-div) → c .before .args .count * c .before .args .cost + c .ceil-div .result * c .before .args .others < 2 ^ 34
 fits c =
     let s = c .before in
-    let work = s .args .count * s .args .cost in
-    cycles-fit work (c .ceil-div .result) (s .args .others) (work-fits (s .args .cost) (s .args .count) (s .pre .0) (s .pre .1))
-    (omega (arith, c .ceil-div .ensures .0, ceil-le work (s .args .quantum))) (s .pre .2)
+    let h = work-fits (s .args .cost) (s .args .count) (s .pre .0) (s .pre .1) in
+    cycles-fit (s .args .count * s .args .cost) (c .ceil-div .result) (s .args .others) h (omega (arith, c .ceil-div .ensures .1, h, s .pre .0)) (s .pre .2)
 
 mul-result : tie.Need-mul-result
 mul-result c = omega (arith, fits c)
