@@ -86,7 +86,7 @@ module _ (jobs : List Job) (a : Set) (own d : ℕ) where
   rising : 0 < f 1 → Rising f
   rising p = record { pos = λ t h. omega (arith, p, mono 1 t h); mono = mono }
 
-  -- A time that equals its demand, in parts of what a set with some of the interference leaves.
+  -- A time x that is some rest and the work of a set within x: what the set leaves of x covers the rest.
   leaves : (s : Set) (rest x : ℕ) → x ≡ rest + interference jobs s x → rest * whole ≤ x * free (sharesOf jobs) s
   unfolding free
   leaves s rest x e =

@@ -59,8 +59,8 @@ estimate workload above longest own t =
     (own + interference (workload .jobs) (longOf (workload .jobs) above longest) t) * whole
     / max 1 (free (workload .shares) (shortOf (workload .jobs) above longest))
 
--- A time of which this part is the longest period that counts as short, and the number of plain steps before estimates are made: they
--- decide how long a search takes, and not what it finds.
+-- The longest period that counts as short is the time at which estimates begin divided by shortPart; they begin after so many plain
+-- steps. Both numbers decide how long a search takes, and not what it finds.
 abbrev pub shortPart : ℕ
 shortPart = 256
 
