@@ -8,3 +8,4 @@ pub mod Placed
 pub mod Planned
 pub mod AnyPlay
 pub mod Settling
+pub mod StoredKeys

@@ -16,9 +16,9 @@ use Rattle.records.specs.declared.job.Job.{Job}
 use Rattle.configuration.specs.declared.setting.Setting.{Setting}
 use Rattle.configuration.specs.Settings.{blankSetting, settingAt, levelAt}
 use Rattle.response.specs.Demand.{bound}
-use Rattle.response.specs.Search.{workload, boundBy}
+use Rattle.response.specs.Search.{plainWorkload, boundBy}
 use Rattle.response.proofs.Easier.{bound-same, bound-take}
-use Rattle.response.proofs.Utilisation.{bound-found}
+use Rattle.response.proofs.Utilisation.{bound-plain}
 use Rattle.response.specs.declared.workload.Workload.{Workload}
 use Rattle.marker.specs.Bounds.{quantaOf, layerOf, aboveOf, boundAt, boundsOf, isPlaced}
 
@@ -67,7 +67,7 @@ module _ (jobs : List Job) (a b : List Setting) (same : (i : ℕ) → i < length
 
 -- ---- the bound as the code finds it, from the numbers of the layer and of the set above
 
-module _ (w : Workload) (whole : w ≡ workload (w .jobs)) (settings : List Setting) (n k : ℕ) (size : n ≤ length (w .jobs)) (kn : k < n) (level : ℕ) (own : level ≡ levelAt settings k)
+module _ (w : Workload) (whole : w ≡ plainWorkload (w .jobs)) (settings : List Setting) (n k : ℕ) (size : n ≤ length (w .jobs)) (kn : k < n) (level : ℕ) (own : level ≡ levelAt settings k)
     (layer above : ℕ) (layer-is : Collects n (layerOf settings level) layer) (above-is : Collects n (aboveOf settings level) above)
   where
     past : (i : ℕ) (x : Bool) → n ≤ i → (ltb i n && x) ≡ false
@@ -81,7 +81,7 @@ module _ (w : Workload) (whole : w ≡ workload (w .jobs)) (settings : List Sett
         let jobs = take n (w .jobs) in
         let v = levelAt settings k in
         ap (λ (x : Workload). boundBy x (quantaOf settings) (has layer) (has above) k) whole
-        ∙ bound-found (w .jobs) (quantaOf settings) (has layer) (has above) k
+        ∙ bound-plain (w .jobs) (quantaOf settings) (has layer) (has above) k
         ∙ bound-take n (w .jobs) (quantaOf settings) (has layer) (has above) k size kn (λ i l. layer-is i ∙ past i _ l) (λ i l. above-is i ∙ past i _ l)
         ∙ bound-same jobs k (quantaOf settings) (quantaOf settings) (has layer) (layerOf settings v) (has above) (aboveOf settings v) refl (λ i l x. refl)
         (λ i l. layer-is i ∙ here i _ l ∙ ap (λ (x : ℕ). layerOf settings x i) own) (λ i l. above-is i ∙ here i _ l ∙ ap (λ (x : ℕ). aboveOf settings x i) own)

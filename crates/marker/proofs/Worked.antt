@@ -63,6 +63,8 @@ cases =
     ∷ filled k2 (shared 4 1) false 8 0
     ∷ filled k2 (apart 1 2) false 6 0
     ∷ filled k7 (apart 1 2) true 6 23
+    -- the example of E2: the neighbour of the first job has less work than quanta
+    ∷ filled (row 1 0 4 20 20 ++ row 2 0 2 20 20) (shared 1 4) true 6 3
     -- the largest quantum for everyone
     ∷ filled k2 (shared 4 4) false 0 13
     -- the larger number taken for the earlier level, in both senses

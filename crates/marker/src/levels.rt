@@ -5,7 +5,7 @@ ghost use lib.ListN.{take};
 ghost use Rattle.sets.specs.Sets.{Collects};
 ghost use Rattle.records.specs.Limits.{mostJobs};
 ghost use Rattle.records.specs.Records.{table};
-ghost use Rattle.response.specs.Search.{workload};
+ghost use Rattle.response.specs.Search.{plainWorkload};
 ghost use Rattle.marker.specs.Bounds.{quantaOf, boundAt, boundsOf};
 ghost use Rattle.marker.specs.Relations.{standing, stands};
 use configuration::setting::Setting;
@@ -62,7 +62,7 @@ fn quanta_of(settings: [Setting; Job::MOST]) -> [u8; Job::MOST]
 
 // The bound of the job at place k of n.
 fn bound_of(workload: Workload, settings: [Setting; Job::MOST], n: usize, k: usize) -> u16
-    requires { ⌜ (n ≤ mostJobs) × (k < n) × (workload ≡ Rattle.response.specs.Search.workload (workload .jobs)) ⌝ }
+    requires { ⌜ (n ≤ mostJobs) × (k < n) × (workload ≡ plainWorkload (workload .jobs)) ⌝ }
     ensures { λ r. ⌜ r ≡ boundAt (take n (workload .jobs)) settings k ⌝ }
 {
     let setting = settings[k];
@@ -81,7 +81,7 @@ pub(crate) fn bounds_of(
     settings: [Setting; Job::MOST],
     n: usize,
 ) -> [u16; Job::MOST]
-    requires { ⌜ (n ≤ mostJobs) × (workload ≡ Rattle.response.specs.Search.workload (workload .jobs)) ⌝ }
+    requires { ⌜ (n ≤ mostJobs) × (workload ≡ plainWorkload (workload .jobs)) ⌝ }
     ensures { λ r. ⌜ r ≡ table mostJobs 0 (boundsOf (take n (workload .jobs)) settings) ⌝ }
 {
     let mut bounds = [0u16; Job::MOST];

@@ -41,7 +41,7 @@ fn put_bounds(
     requires { ⌜ (n ≤ mostJobs) × (boundSize * n ≤ length (now output)) ⌝ }
     ensures { λ r. ⌜ (r ≡ table mostJobs 0 (boundsOf (take n jobs) settings)) × (now (output .exit) ≡ boundsWritten n r (now (output .entry))) ⌝ }
 {
-    let bounds = levels::bounds_of(Workload::new(jobs), settings, n);
+    let bounds = levels::bounds_of(Workload::plain(jobs), settings, n);
     bytes::encode(bounds, n, &mut *output);
     bounds
 }

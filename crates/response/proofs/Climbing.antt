@@ -5,9 +5,8 @@ use native.Mathlib.Decide.{decLe, ℕ-discrete}
 use native.Mathlib.Omega.{arith}
 use borrow.Author.Tests.{eq-eqb, ne-eqb, le-leb, lt-leb, lt-ltb, le-ltb}
 use Rattle.sets.specs.Sets.{Set}
-use Rattle.response.specs.declared.workload.Workload.{Workload}
 use Rattle.response.specs.Demand.{least}
-use Rattle.response.specs.Search.{whole, steps, climb, timeFrom, timeFor}
+use Rattle.response.specs.Search.{Table, whole, steps, climb, timeFrom, timeFor}
 use Rattle.response.proofs.Least.{Rising, least-found, least-is, least-none, covered}
 
 module _ (f g : ℕ → ℕ) (d : ℕ) where
@@ -144,7 +143,7 @@ module _ (f : ℕ → ℕ) (d : ℕ) where
 
 -- ---- how the search starts
 
-module _ (w : Workload) (above : Set) (left own d before : ℕ) where
+module _ (w : Table) (above : Set) (left own d before : ℕ) where
   pub time-idle : own ≡ 0 → timeFor w above left own d before ≡ timeFrom w above own d (max 1 before)
   unfolding timeFor
   time-idle e = rw (eq-eqb own 0 e)

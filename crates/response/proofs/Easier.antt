@@ -1,6 +1,6 @@
 -- The laws of the bound that crates above use; none of them opens it. Assumes nothing.
 use mathlib.Core.Path.{_≡_, refl, sym, _∙_, ap, ap₂, fun-ext}
-use mathlib.Core.Bool.{Bool, true, false, not, _&&_, and-eq-true-iff, false≢true}
+use mathlib.Core.Bool.{Bool, true, false, not, _&&_, _||_, and-eq-true-iff, false≢true}
 use mathlib.Core.Logic.{_↔_, _≢_}
 use mathlib.Core.List.{List}
 use Prim.Native.Nat.{ℕ, suc, _+_, _*_, _≤_, _<_}
@@ -10,16 +10,17 @@ use native.Mathlib.Omega.{arith}
 use lib.Dec.{eqb}
 use lib.ListN.{length, getD, take}
 use lib.Seq.{getD-take, length-take-le}
-use borrow.Author.Tests.{eqb-false, not-true}
+use borrow.Author.Tests.{eqb-true, eqb-false, ne-eqb, not-true}
 use Rattle.sets.specs.Sets.{Set, Sub, Alone}
 use Rattle.sets.specs.Places.{sumOver}
 use Rattle.sets.proofs.Places.{over-mono, over-same, over-zero, over-cut, over-split}
 use Rattle.records.specs.Jobs.{blankJob, jobAt}
 use Rattle.records.specs.declared.job.Job.{Job}
-use Rattle.response.specs.Demand.{ceilDiv, work, interference, otherQuanta, layerShare, demand, least, oneInstanceBound, finish, Reached, none, larger, responseOf, run, mostInstances, largestResponse, bound}
+use Rattle.response.specs.Demand.{ceilDiv, work, interference, otherQuanta, layerShare, demand, least, oneInstanceBound, finish, Reached, none, larger, responseOf, run, mostInstances, largestResponse, firstBound, withNeighbours, only, secondBound, lesser, bound}
 use Rattle.response.proofs.Division.{ceil-mono, ceil-anti}
 use Rattle.response.proofs.Least.{Rising, least-found, served-exactly, sooner}
 use Rattle.response.proofs.Runs.{larger-max, run-none, run-closed, run-sooner}
+use Rattle.response.proofs.Lesser.{lesser-none, lesser-same, lesser-serves}
 
 -- ---- interference
 
@@ -65,11 +66,34 @@ others-alone : (n k : ℕ) (q : List ℕ) (s : Set) → Alone n s k → otherQua
 unfolding otherQuanta
 others-alone n k q s a = over-zero n (λ i. s i && not (eqb i k)) _ (λ i il e. let w = other s k i e in absurd (w .1 (a i il (w .0))))
 
--- ---- THE law: a job that is served stays served with a lighter share, a smaller layer and a smaller set above
+-- ---- the share of the layer
 
 -- Job k's share of its layer is no larger, for any amount of own work.
 abbrev pub Lighter : ℕ → ℕ → List ℕ → Set → List ℕ → Set → Type 0
 Lighter n k q s q′ s′ = (own : ℕ) → layerShare n q′ s′ k own ≤ layerShare n q s k own
+
+-- The same quanta, and fewer jobs.
+pub lighter-drop : (n k : ℕ) (q : List ℕ) (s s′ : Set) → Sub n s′ s → Lighter n k q s q s′
+unfolding layerShare
+lighter-drop n k q s s′ h own = mul-le-mul-left (ceilDiv own (getD q k 0)) (others-mono n k q q s s′ h (λ i il e d. le-refl (getD q i 0)))
+
+-- A quantum that is no shorter, beside others whose sum is no larger: served falls as the sum of the other quanta rises.
+pub lighter-quanta : (n k : ℕ) (q q′ : List ℕ) (s s′ : Set) → 0 < getD q k 0 → getD q k 0 ≤ getD q′ k 0 → otherQuanta n q′ s′ k ≤ otherQuanta n q s k → Lighter n k q s q′ s′
+unfolding layerShare
+lighter-quanta n k q q′ s s′ p h o own = mul-le-mul (ceil-anti own (getD q k 0) (getD q′ k 0) p h) o
+
+-- No other job: no share.
+share-alone : (n k : ℕ) (q : List ℕ) (s : Set) → Alone n s k → (own : ℕ) → layerShare n q s k own ≡ 0
+unfolding layerShare
+share-alone n k q s a own = rw (others-alone n k q s a, mul-zero)
+
+pub lighter-alone : (n k : ℕ) (q q′ : List ℕ) (s s′ : Set) → Alone n s′ k → Lighter n k q s q′ s′
+lighter-alone n k q q′ s s′ a own = omega (arith, share-alone n k q′ s′ a own)
+
+only-alone : (n k : ℕ) → Alone n (only k) k
+only-alone n k i il e = eqb-true i k e
+
+-- ---- THE law: a job that is served stays served with a lighter share, a smaller layer and a smaller set above
 
 rising : (jobs : List Job) (q : List ℕ) (s a : Set) (k own : ℕ) → 0 < own → Rising (demand jobs q s a k own)
 unfolding demand
@@ -92,28 +116,33 @@ finish-sooner jobs k q q′ s s′ a a′ p h ha j b =
     sooner (demand jobs q s a k own) (demand jobs q′ s′ a′ k own) (rising jobs q′ s′ a′ k own (works (jobAt jobs k .cost) j p))
     (λ t. omega (arith, h own, interference-mono jobs a′ a t t ha (le-refl t))) (j * jobAt jobs k .period + jobAt jobs k .deadline) b
 
-pub easier : (jobs : List Job) (k : ℕ) (q q′ : List ℕ) (s s′ a a′ : Set) → 0 < jobAt jobs k .cost
-    → Lighter (length jobs) k q s q′ s′ → Sub (length jobs) s′ s → Sub (length jobs) a′ a
-    → 0 < bound jobs q s a k → 0 < bound jobs q′ s′ a′ k
-unfolding bound largestResponse
-easier jobs k q q′ s s′ a a′ p h hs ha b =
+-- One of the two bounds, by its share and its set above.
+run-easier : (jobs : List Job) (k : ℕ) (q q′ : List ℕ) (s s′ a a′ : Set) → 0 < jobAt jobs k .cost
+    → Lighter (length jobs) k q s q′ s′ → Sub (length jobs) a′ a → 0 < firstBound jobs q s a k → 0 < firstBound jobs q′ s′ a′ k
+unfolding largestResponse
+run-easier jobs k q q′ s s′ a a′ p h ha b =
     run-sooner (finish jobs q s a k) (finish jobs q′ s′ a′ k) (jobAt jobs k .period) (finish-sooner jobs k q q′ s s′ a a′ p h ha)
     mostInstances 0 none none (λ g. omega arith) b
 
--- The same quanta, and fewer jobs.
-pub lighter-drop : (n k : ℕ) (q : List ℕ) (s s′ : Set) → Sub n s′ s → Lighter n k q s q s′
-unfolding layerShare
-lighter-drop n k q s s′ h own = mul-le-mul-left (ceilDiv own (getD q k 0)) (others-mono n k q q s s′ h (λ i il e d. le-refl (getD q i 0)))
+-- Fewer neighbours, counted as if they were above a smaller set above.
+with-sub : (n k : ℕ) (s s′ a a′ : Set) → Sub n s′ s → Sub n a′ a → Sub n (withNeighbours s′ a′ k) (withNeighbours s a k)
+with-sub n k s s′ a a′ hs ha i il e = pick (a′ i) (a i) (s′ i) (s i) (not (eqb i k)) (ha i il) (hs i il) e
+  where
+    pick : (a′ a s′ s b : Bool) → (a′ ≡ true → a ≡ true) → (s′ ≡ true → s ≡ true) → (a′ || (s′ && b)) ≡ true → (a || (s && b)) ≡ true
+    pick true a s′ s b f g e = ap (λ (x : Bool). x || (s && b)) (f refl)
+    pick false true s′ s b f g e = refl
+    pick false false true s b f g e = ap (λ (x : Bool). x && b) (g refl) ∙ e
+    pick false false false s b f g e = absurd (false≢true e)
 
--- A quantum that is no shorter, beside others whose sum is no larger: served falls as the sum of the other quanta rises.
-pub lighter-quanta : (n k : ℕ) (q q′ : List ℕ) (s s′ : Set) → 0 < getD q k 0 → getD q k 0 ≤ getD q′ k 0 → otherQuanta n q′ s′ k ≤ otherQuanta n q s k → Lighter n k q s q′ s′
-unfolding layerShare
-lighter-quanta n k q q′ s s′ p h o own = mul-le-mul (ceil-anti own (getD q k 0) (getD q′ k 0) p h) o
-
--- No other job.
-pub lighter-alone : (n k : ℕ) (q q′ : List ℕ) (s s′ : Set) → Alone n s′ k → Lighter n k q s q′ s′
-unfolding layerShare
-lighter-alone n k q q′ s s′ a own = rw (others-alone n k q′ s′ a, mul-zero) (omega arith)
+pub easier : (jobs : List Job) (k : ℕ) (q q′ : List ℕ) (s s′ a a′ : Set) → 0 < jobAt jobs k .cost
+    → Lighter (length jobs) k q s q′ s′ → Sub (length jobs) s′ s → Sub (length jobs) a′ a
+    → 0 < bound jobs q s a k → 0 < bound jobs q′ s′ a′ k
+unfolding bound
+easier jobs k q q′ s s′ a a′ p h hs ha b =
+    let n = length jobs in
+    lesser-serves (firstBound jobs q s a k) (secondBound jobs q s a k) (firstBound jobs q′ s′ a′ k) (secondBound jobs q′ s′ a′ k)
+    (run-easier jobs k q q′ s s′ a a′ p h ha)
+    (run-easier jobs k q q′ (only k) (only k) (withNeighbours s a k) (withNeighbours s′ a′ k) p (lighter-alone n k q q′ (only k) (only k) (only-alone n k)) (with-sub n k s s′ a a′ hs ha)) b
 
 -- ---- what the bound goes by
 
@@ -123,34 +152,76 @@ boundFor f job = run (λ j. least (f (suc j * job .cost)) (j * job .period + job
 
 share-same : (jobs : List Job) (k : ℕ) (q q′ : List ℕ) (s s′ a a′ : Set)
     → ((own : ℕ) → layerShare (length jobs) q s k own ≡ layerShare (length jobs) q′ s′ k own)
-    → ((i : ℕ) → i < length jobs → a i ≡ a′ i) → bound jobs q s a k ≡ bound jobs q′ s′ a′ k
-unfolding bound largestResponse finish demand
+    → ((i : ℕ) → i < length jobs → a i ≡ a′ i) → firstBound jobs q s a k ≡ firstBound jobs q′ s′ a′ k
+unfolding largestResponse finish demand
 share-same jobs k q q′ s s′ a a′ h g =
     let same : (own t : ℕ) → demand jobs q s a k own t ≡ demand jobs q′ s′ a′ k own t = λ own t. omega (arith, h own, interference-same jobs a a′ t g) in
     ap (λ (f : ℕ → ℕ → ℕ). boundFor f (jobAt jobs k)) (fun-ext (λ own. fun-ext (same own)))
 
--- It goes by the quanta of the layer's jobs, by who is in the layer and by who is above.
+-- Two jobs alone in their layers, below sets that are the same.
+alone-same : (jobs : List Job) (k : ℕ) (q q′ : List ℕ) (s s′ a a′ : Set) → Alone (length jobs) s k → Alone (length jobs) s′ k
+    → ((i : ℕ) → i < length jobs → a i ≡ a′ i) → firstBound jobs q s a k ≡ firstBound jobs q′ s′ a′ k
+alone-same jobs k q q′ s s′ a a′ x y g =
+    share-same jobs k q q′ s s′ a a′ (λ own. share-alone (length jobs) k q s x own ∙ sym (share-alone (length jobs) k q′ s′ y own)) g
+
+-- The second bound goes by who is in the layer and who is above; no quantum counts.
+second-same : (jobs : List Job) (k : ℕ) (q q′ : List ℕ) (s s′ a a′ : Set) → ((i : ℕ) → i < length jobs → withNeighbours s a k i ≡ withNeighbours s′ a′ k i)
+    → secondBound jobs q s a k ≡ secondBound jobs q′ s′ a′ k
+second-same jobs k q q′ s s′ a a′ g =
+    alone-same jobs k q q′ (only k) (only k) (withNeighbours s a k) (withNeighbours s′ a′ k) (only-alone (length jobs) k) (only-alone (length jobs) k) g
+
+-- The bound goes by the quanta of the layer's jobs, by who is in the layer and by who is above.
 pub bound-same : (jobs : List Job) (k : ℕ) (q q′ : List ℕ) (s s′ a a′ : Set) → getD q k 0 ≡ getD q′ k 0
     → ((i : ℕ) → i < length jobs → s′ i ≡ true → getD q i 0 ≡ getD q′ i 0)
     → ((i : ℕ) → i < length jobs → s i ≡ s′ i) → ((i : ℕ) → i < length jobs → a i ≡ a′ i) → bound jobs q s a k ≡ bound jobs q′ s′ a′ k
-unfolding layerShare
+unfolding bound layerShare
 bound-same jobs k q q′ s s′ a a′ e h f g =
-    share-same jobs k q q′ s s′ a a′
-    (λ own. ap₂ (λ (x y : ℕ). ceilDiv own x * y) e (others-same (length jobs) k q q′ s s′ f (λ i il x d. h i il x))) g
+    ap₂ lesser
+    (share-same jobs k q q′ s s′ a a′
+    (λ own. ap₂ (λ (x y : ℕ). ceilDiv own x * y) e (others-same (length jobs) k q q′ s s′ f (λ i il x d. h i il x))) g)
+    (second-same jobs k q q′ s s′ a a′ (λ i il. ap₂ (λ (x y : Bool). x || (y && not (eqb i k))) (g i il) (f i il)))
+
+-- A job alone in its layer has no neighbours.
+no-neighbour : (n k : ℕ) (s a : Set) → Alone n s k → (i : ℕ) → i < n → withNeighbours s a k i ≡ a i
+no-neighbour n k s a x i il = drop (a i) (s i) (not (eqb i k)) (λ e f. eqb-false i k (not-true (eqb i k) f) (x i il e))
+  where
+    drop : (a s b : Bool) → (s ≡ true → b ≡ true → ⊥) → (a || (s && b)) ≡ a
+    drop true s b h = refl
+    drop false true true h = absurd (h refl refl)
+    drop false true false h = refl
+    drop false false b h = refl
+
+-- "Policy 1 jobs have the first alone": without neighbours the two bounds are one.
+pub first-alone : (jobs : List Job) (k : ℕ) (q : List ℕ) (s a : Set) → Alone (length jobs) s k → bound jobs q s a k ≡ firstBound jobs q s a k
+unfolding bound
+first-alone jobs k q s a x =
+    let e : secondBound jobs q s a k ≡ firstBound jobs q s a k =
+    alone-same jobs k q q (only k) s (withNeighbours s a k) a (only-alone (length jobs) k) x (no-neighbour (length jobs) k s a x) in
+    lesser-same (firstBound jobs q s a k) (secondBound jobs q s a k) e
+
+-- A second bound of 0 leaves the first.
+pub second-none : (jobs : List Job) (k : ℕ) (q : List ℕ) (s a : Set) → secondBound jobs q s a k ≡ 0 → bound jobs q s a k ≡ firstBound jobs q s a k
+unfolding bound
+second-none jobs k q s a e = lesser-none (firstBound jobs q s a k) (secondBound jobs q s a k) e
 
 -- A job alone in its layer: no quantum counts.
 pub bound-alone : (jobs : List Job) (k : ℕ) (q q′ : List ℕ) (s s′ a a′ : Set) → Alone (length jobs) s k → Alone (length jobs) s′ k
     → ((i : ℕ) → i < length jobs → a i ≡ a′ i) → bound jobs q s a k ≡ bound jobs q′ s′ a′ k
-unfolding layerShare
 bound-alone jobs k q q′ s s′ a a′ x y g =
-    share-same jobs k q q′ s s′ a a′
-    (λ own. rw (others-alone (length jobs) k q s x, others-alone (length jobs) k q′ s′ y, mul-zero, mul-zero)) g
+    first-alone jobs k q s a x ∙ alone-same jobs k q q′ s s′ a a′ x y g ∙ sym (first-alone jobs k q′ s′ a′ y)
 
--- It sees a table as it sees the list that the table begins with, if the sets have no place past it.
-pub bound-take : (n : ℕ) (jobs : List Job) (q : List ℕ) (s a : Set) (k : ℕ) → n ≤ length jobs → k < n
-    → ((i : ℕ) → n ≤ i → s i ≡ false) → ((i : ℕ) → n ≤ i → a i ≡ false) → bound jobs q s a k ≡ bound (take n jobs) q s a k
-unfolding bound largestResponse finish demand layerShare interference otherQuanta
-bound-take n jobs q s a k h kn hs ha =
+-- The second bound of a job in a set is the bound that it has alone with its neighbours above, whatever its quantum.
+pub second-alone : (jobs : List Job) (k : ℕ) (q q′ : List ℕ) (s s′ a : Set) → Alone (length jobs) s′ k
+    → secondBound jobs q s a k ≡ bound jobs q′ s′ (withNeighbours s a k) k
+second-alone jobs k q q′ s s′ a x =
+    alone-same jobs k q q′ (only k) s′ (withNeighbours s a k) (withNeighbours s a k) (only-alone (length jobs) k) x (λ i il. refl)
+    ∙ sym (first-alone jobs k q′ s′ (withNeighbours s a k) x)
+
+-- One of the two bounds of a table, as of the list that the table begins with.
+run-take : (n : ℕ) (jobs : List Job) (q : List ℕ) (s a : Set) (k : ℕ) → n ≤ length jobs → k < n
+    → ((i : ℕ) → n ≤ i → s i ≡ false) → ((i : ℕ) → n ≤ i → a i ≡ false) → firstBound jobs q s a k ≡ firstBound (take n jobs) q s a k
+unfolding largestResponse finish demand layerShare interference otherQuanta
+run-take n jobs q s a k h kn hs ha =
     ap₂ boundFor (fun-ext (λ own. fun-ext (same own))) (sym (getD-take n jobs k blankJob kn))
   where
     size : length (take n jobs) ≡ n
@@ -171,12 +242,21 @@ bound-take n jobs q s a k h kn hs ha =
     same : (own t : ℕ) → demand jobs q s a k own t ≡ demand (take n jobs) q s a k own t
     same own t = ap₂ (λ (x y : ℕ). own + ceilDiv own (getD q k 0) * x + y) others (above t)
 
+-- The bound sees a table as it sees the list that the table begins with, if the sets have no place past it.
+pub bound-take : (n : ℕ) (jobs : List Job) (q : List ℕ) (s a : Set) (k : ℕ) → n ≤ length jobs → k < n
+    → ((i : ℕ) → n ≤ i → s i ≡ false) → ((i : ℕ) → n ≤ i → a i ≡ false) → bound jobs q s a k ≡ bound (take n jobs) q s a k
+unfolding bound
+bound-take n jobs q s a k h kn hs ha =
+    ap₂ lesser (run-take n jobs q s a k h kn hs ha)
+    (run-take n jobs q (only k) (withNeighbours s a k) k h kn (λ i l. ne-eqb i k (λ e. omega arith))
+    (λ i l. ap₂ (λ (x y : Bool). x || (y && not (eqb i k))) (ha i l) (hs i l)))
+
 -- ---- one instance
 
--- For a deadline up to the period the bound is the one of 01.
+-- For a deadline up to the period the first bound is the one of 01.
 pub one-instance : (jobs : List Job) (q : List ℕ) (s a : Set) (k : ℕ) → jobAt jobs k .deadline ≤ jobAt jobs k .period
-    → bound jobs q s a k ≡ oneInstanceBound jobs q s a k
-unfolding bound largestResponse finish oneInstanceBound larger
+    → firstBound jobs q s a k ≡ oneInstanceBound jobs q s a k
+unfolding largestResponse finish oneInstanceBound larger
 one-instance jobs q s a k h =
     let job = jobAt jobs k in
     let f = finish jobs q s a k in

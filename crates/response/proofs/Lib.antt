@@ -1,8 +1,10 @@
 pub mod Division
 pub mod Least
 pub mod Runs
+pub mod Lesser
 pub mod Easier
 pub mod Climbing
+pub mod Blocking
 pub mod Utilisation
 pub mod Loops
 pub mod Worked

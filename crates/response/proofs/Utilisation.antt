@@ -1,29 +1,33 @@
--- The utilisation above bounds every time that equals its demand from below: where the iteration may start; so what the code finds is
--- the bound. Assumes nothing.
-use mathlib.Core.Path.{_≡_, refl, sym, _∙_, ap}
-use mathlib.Core.Bool.{Bool, true, false, cond, and-false}
+-- The utilisation above bounds every time that equals its demand from below: where the iteration may start. So what the code finds is
+-- the bound, of each job whose second bound it leaves out too. Assumes nothing.
+use mathlib.Core.Path.{_≡_, refl, sym, _∙_, ap, ap₂}
+use mathlib.Core.Bool.{Bool, true, false, cond, and-false, _&&_, _||_, and-eq-true-iff, false≢true}
 use mathlib.Core.List.{List}
 use mathlib.Core.Logic.{⊎-elim}
-use Prim.Native.Nat.{ℕ, suc, _+_, _-_, _*_, _/_, _≤_, _<_, min, max}
+use Prim.Native.Nat.{ℕ, suc, _+_, _-_, _*_, _/_, _≤_, _<_, min, max, _^_}
 use native.Mathlib.Nat.{le-refl, le-trans, mul-le-mul, mul-le-mul-left, mul-le-mul-right, mul-lt-mul-of-pos-left, div-mul-le-self, div-zero, div-lt-iff-lt-mul, le-div-iff-mul-le, mul-add, add-mul, mul-comm, mul-assoc, eq-zero-or-pos}
 use native.Mathlib.Decide.{decLe, ℕ-discrete}
 use native.Mathlib.Omega.{arith}
-use lib.Dec.{leb}
+use lib.Dec.{leb, eqb, ltb}
 use lib.ListN.{length, getD, List·getD-eq-default}
-use borrow.Author.Tests.{lt-ltb, le-ltb}
-use Rattle.sets.specs.Places.{sumOver, listOf}
-use Rattle.sets.specs.Sets.{Set}
+use borrow.Author.Tests.{lt-ltb, le-ltb, eqb-true, eqb-false}
+use Rattle.sets.specs.Places.{sumOver}
+use Rattle.sets.specs.Sets.{Set, places, has, single, remove, firstJobs, Alone}
 use Rattle.sets.proofs.Places.{over-same, over-mono, over-scale, list-length, list-at}
 use Rattle.records.specs.Jobs.{blankJob, jobAt}
 use Rattle.records.specs.declared.job.Job.{Job}
-use Rattle.response.specs.declared.workload.Workload.{Workload}
-use Rattle.response.specs.Demand.{ceilDiv, work, interference, otherQuanta, layerShare, demand, least, finish, none, mostInstances, largestResponse, bound}
-use Rattle.response.specs.Search.{whole, utilisation, workload, load, free, steps, shortOf, longOf, estimate, shortPart, plainSteps, farTime, timeFrom, timeFor, ownDemand, finishBy, largestBy, runsOn, boundBy}
+use Rattle.response.specs.Demand.{ceilDiv, work, interference, otherQuanta, layerShare, demand, least, finish, none, mostInstances, largestResponse, firstBound, withNeighbours, only, secondBound, lesser, bound}
+use Rattle.response.specs.Search.{whole, utilisation, Table, sharesOf, tableOf, load, free, steps, shortOf, longOf, estimate, shortPart, plainSteps, farTime, timeFrom, timeFor, ownDemand, finishBy, largestBy, runsOn, runBound, inTable, oneBound, firstDecides, boundBy, noQuanta, plainWorkload, drops, rounds, blockedOf, workload}
 use Rattle.response.proofs.Division.{ceil-covers, ceil-one, ceil-mono, ceil-le}
 use Rattle.response.proofs.Least.{Rising, least-found, least-none, covered}
 use Rattle.response.proofs.Runs.{run-found, run-never, turn-none}
-use Rattle.response.proofs.Easier.{interference-mono, interference-split}
+use Rattle.response.proofs.Easier.{interference-mono, interference-split, easier, lighter-drop, first-alone, second-alone, second-none}
 use Rattle.response.proofs.Climbing.{Below, below-zero, below-later, steps-past, steps-end, steps-below, loop-least, loop-falls, loop-past, time-idle, time-full, time-start}
+use Rattle.sets.proofs.Members.{has-none, has-single, member-lt}
+use Rattle.records.specs.Limits.{mostJobs}
+use Rattle.response.specs.declared.workload.Workload.{Workload}
+use Rattle.response.proofs.Lesser.{lesser-second}
+use Rattle.response.proofs.Blocking.{Covered, settle-lt, settled, decided, only-decides}
 
 -- Within t a job adds at least its utilisation of t.
 covers : (job : Job) (t : ℕ) → t * utilisation job ≤ work job t * whole
@@ -38,10 +42,6 @@ covers job t = ⊎-elim
     le-trans (mul-le-mul (ceil-covers t (job .period) p) (le-refl u))
     (omega (arith, mul-assoc c (job .period) u, mul-comm (job .period) u, mul-assoc c (job .cost) whole, mul-le-mul-left c a)))
     (eq-zero-or-pos (job .period))
-
--- The utilisation of each job of a list.
-abbrev sharesOf : List Job → List ℕ
-sharesOf jobs = listOf (λ i. utilisation (jobAt jobs i)) (length jobs)
 
 load-covered : (jobs : List Job) (a : Set) (t : ℕ) → t * load (sharesOf jobs) a ≤ interference jobs a t * whole
 unfolding load interference
@@ -74,8 +74,8 @@ module _ (jobs : List Job) (a : Set) (own d : ℕ) where
   abbrev f : ℕ → ℕ
   f t = own + interference jobs a t
 
-  abbrev w : Workload
-  w = workload jobs
+  abbrev w : Table
+  w = tableOf jobs
 
   abbrev left : ℕ
   left = free (sharesOf jobs) a
@@ -182,7 +182,7 @@ module _ (jobs : List Job) (a : Set) (own d : ℕ) where
       ]
 
 -- No time is sought past the limit.
-past-none : (w : Workload) (a : Set) (own : ℕ) {d t : ℕ} → d < t → timeFrom w a own d t ≡ 0
+past-none : (w : Table) (a : Set) (own : ℕ) {d t : ℕ} → d < t → timeFrom w a own d t ≡ 0
 unfolding timeFrom farTime
 past-none w a own {d} {t} h = rw (steps-past _ d plainSteps {t = t} h) (loop-past _ _ d h)
 
@@ -245,10 +245,10 @@ module _ (jobs : List Job) (q : List ℕ) (s a : Set) (k : ℕ) where
       let more : suc j * job .cost ≤ suc (suc j) * job .cost = mul-le-mul-right (job .cost) (omega arith) in
       omega (arith, more, mul-le-mul-right others (ceil-mono (suc j * job .cost) (suc (suc j) * job .cost) quantum more))
 
-  pub largest-found : largestBy (workload jobs) a (free (sharesOf jobs) a) quantum others job ≡ bound jobs q s a k
-  unfolding bound largestResponse finishBy
+  pub largest-found : largestBy (tableOf jobs) a (free (sharesOf jobs) a) quantum others job ≡ firstBound jobs q s a k
+  unfolding largestResponse finishBy
   largest-found =
-      run-found (finishBy (workload jobs) a (free (sharesOf jobs) a) quantum others (job .cost) (job .period) (job .deadline)) (job .period) (finish jobs q s a k)
+      run-found (finishBy (tableOf jobs) a (free (sharesOf jobs) a) quantum others (job .cost) (job .period) (job .deadline)) (job .period) (finish jobs q s a k)
       (λ j b. Below (λ t. own j + interference jobs a t) (limit j) b)
       (λ j b g. time-least jobs a (own j) (limit j) b g ∙ sym (finish-is j))
       (λ j p. rw (finish-is j) (starts-later jobs a (own j) (limit j) (own (suc j)) (limit (suc j)) (own-mono j) (rw (finish-is j) at p)))
@@ -271,11 +271,11 @@ module _ (jobs : List Job) (q : List ℕ) (s a : Set) (k : ℕ) where
       ])
 
   -- So it has no bound.
-  never : 0 < quantum → job .period * quantum * free (sharesOf jobs) a < job .cost * (quantum + others) * whole → bound jobs q s a k ≡ 0
-  unfolding bound largestResponse
+  never : 0 < quantum → job .period * quantum * free (sharesOf jobs) a < job .cost * (quantum + others) * whole → firstBound jobs q s a k ≡ 0
+  unfolding largestResponse
   never p h = run-never (finish jobs q s a k) (job .period) (runs-past p h) mostInstances 0 none
 
--- ---- what the code finds is the bound
+-- ---- each of the two bounds
 
 module _ (left quantum others : ℕ) (job : Job) where
   pub runs-idle : quantum ≡ 0 → runsOn left quantum others job ≡ false
@@ -290,48 +290,150 @@ module _ (left quantum others : ℕ) (job : Job) where
   unfolding runsOn
   runs-over p h = simp (lt-ltb 0 quantum p, lt-ltb (job .period * quantum * left) (job .cost * (quantum + others) * whole) h)
 
-module _ (w : Workload) (q : List ℕ) (s a : Set) (k : ℕ) where
+module _ (w : Table) (a : Set) (quantum others : ℕ) (job : Job) where
   abbrev on : Bool
-  on = runsOn (free (w .shares) a) (getD q k 0) (otherQuanta (length (w .jobs)) q s k) (jobAt (w .jobs) k)
+  on = runsOn (free (w .shares) a) quantum others job
 
   abbrev found : ℕ
-  found = largestBy w a (free (w .shares) a) (getD q k 0) (otherQuanta (length (w .jobs)) q s k) (jobAt (w .jobs) k)
+  found = largestBy w a (free (w .shares) a) quantum others job
 
-  pub bound-stops : on ≡ true → boundBy w q s a k ≡ 0
-  unfolding boundBy
-  bound-stops e = ap (λ (b : Bool). cond b 0 found) e
+  pub run-stops : on ≡ true → runBound w a quantum others job ≡ 0
+  unfolding runBound
+  run-stops e = ap (λ (b : Bool). cond b 0 found) e
 
-  pub bound-runs : on ≡ false → boundBy w q s a k ≡ found
-  unfolding boundBy
-  bound-runs e = ap (λ (b : Bool). cond b 0 found) e
+  pub run-runs : on ≡ false → runBound w a quantum others job ≡ found
+  unfolding runBound
+  run-runs e = ap (λ (b : Bool). cond b 0 found) e
 
-  -- A place past the table has no job, and no bound.
-  pub by-past : length (w .jobs) ≤ k → boundBy w q s a k ≡ 0
-  unfolding boundBy finishBy ownDemand
-  by-past l = either on (rw blank (turn-none _ 0 mostInstances 0 0 0 (omega arith) never-found))
+  -- A job without times has no bound.
+  pub run-blank : job ≡ blankJob → runBound w a quantum others job ≡ 0
+  unfolding runBound finishBy ownDemand
+  run-blank blank = either on (rw blank (turn-none _ 0 mostInstances 0 0 0 (omega arith) never-found))
     where
-      blank : jobAt (w .jobs) k ≡ blankJob
-      blank = List·getD-eq-default (w .jobs) blankJob l
-
       either : (b : Bool) {x : ℕ} → x ≡ 0 → cond b 0 x ≡ 0
       either true e = refl
       either false e = e
 
-      never-found : finishBy w a (free (w .shares) a) (getD q k 0) (otherQuanta (length (w .jobs)) q s k) 0 0 0 0 0 ≡ 0
+      never-found : finishBy w a (free (w .shares) a) quantum others 0 0 0 0 0 ≡ 0
       never-found =
-          let cycles : ceilDiv 0 (getD q k 0) ≡ 0 = let h = ceil-le 0 (getD q k 0) in omega arith in
+          let cycles : ceilDiv 0 quantum ≡ 0 = let h = ceil-le 0 quantum in omega arith in
           rw cycles (time-idle w a _ _ 0 0 (omega arith) ∙ past-none w a _ (omega arith))
 
-pub bound-found : (jobs : List Job) (q : List ℕ) (s a : Set) (k : ℕ) → boundBy (workload jobs) q s a k ≡ bound jobs q s a k
-bound-found jobs q s a k =
-    let w = workload jobs in
+-- Each of the two bounds is found.
+pub run-bound : (jobs : List Job) (q : List ℕ) (s a : Set) (k : ℕ)
+    → runBound (tableOf jobs) a (getD q k 0) (otherQuanta (length jobs) q s k) (jobAt jobs k) ≡ firstBound jobs q s a k
+run-bound jobs q s a k =
+    let w = tableOf jobs in
     let n = getD q k 0 in
     let o = otherQuanta (length jobs) q s k in
     let job = jobAt jobs k in
     elim (decLe 1 n) [
-      | no h ↦ bound-runs w q s a k (runs-idle _ n o job (omega arith)) ∙ largest-found jobs q s a k
+      | no h ↦ run-runs w a n o job (runs-idle _ n o job (omega arith)) ∙ largest-found jobs q s a k
       | yes h ↦ elim (decLe (job .cost * (n + o) * whole) (job .period * n * free (sharesOf jobs) a)) [
-        | yes l ↦ bound-runs w q s a k (runs-held _ n o job l) ∙ largest-found jobs q s a k
-        | no l ↦ bound-stops w q s a k (runs-over _ n o job h (omega arith)) ∙ sym (never jobs q s a k h (omega arith))
+        | yes l ↦ run-runs w a n o job (runs-held _ n o job l) ∙ largest-found jobs q s a k
+        | no l ↦ run-stops w a n o job (runs-over _ n o job h (omega arith)) ∙ sym (never jobs q s a k h (omega arith))
       ]
     ]
+
+-- ---- what the code finds is the bound
+
+-- What is found is the bound, if a job that is covered has no second bound.
+found-by : (jobs : List Job) (blocked : ℕ) (q : List ℕ) (s a : Set) (k : ℕ)
+    → (Covered (length jobs) blocked s a k → secondBound jobs q s a k ≡ 0)
+    → boundBy (record { jobs = jobs; shares = sharesOf jobs; blocked = blocked }) q s a k ≡ bound jobs q s a k
+unfolding boundBy bound
+found-by jobs blocked q s a k none = go (firstDecides (length jobs) blocked s a k) refl
+  where
+    go : (b : Bool) → firstDecides (length jobs) blocked s a k ≡ b
+        → cond b (oneBound (record { jobs = jobs; shares = sharesOf jobs; blocked = blocked }) q s a k)
+        (lesser (oneBound (record { jobs = jobs; shares = sharesOf jobs; blocked = blocked }) q s a k)
+        (oneBound (record { jobs = jobs; shares = sharesOf jobs; blocked = blocked }) q (only k) (withNeighbours s a k) k))
+        ≡ bound jobs q s a k
+    go true e =
+        run-bound jobs q s a k
+        ∙ sym (⊎-elim (λ x. first-alone jobs k q s a x) (λ x. second-none jobs k q s a (none x)) (decided (length jobs) blocked s a k e))
+    go false e = ap₂ lesser (run-bound jobs q s a k) (run-bound jobs q (only k) (withNeighbours s a k) k)
+
+pub bound-plain : (jobs : List Job) (q : List ℕ) (s a : Set) (k : ℕ) → boundBy (plainWorkload jobs) q s a k ≡ bound jobs q s a k
+bound-plain jobs q s a k = found-by jobs 0 q s a k (λ c. absurd (false≢true (sym (has-none k) ∙ c .one)))
+
+-- ---- a job that is blocked has no second bound
+
+module _ (jobs : List Job) where
+  abbrev blocked : ℕ
+  blocked = blockedOf (plainWorkload jobs)
+
+  dropped-in : (s k : ℕ) → drops (plainWorkload jobs) s k ≡ true → has s k ≡ true
+  unfolding drops
+  dropped-in s k e = and-eq-true-iff (has s k) _ .0 e .0
+
+  -- It has a cost, and no bound alone below the others.
+  alone-none : (k : ℕ) → has blocked k ≡ true → (0 < jobAt jobs k .cost) × (bound jobs noQuanta (has (single k)) (has (remove blocked k)) k ≡ 0) × (k < mostJobs)
+  unfolding drops
+  alone-none k e =
+      let l : k < mostJobs = member-lt mostJobs blocked k (settle-lt (drops (plainWorkload jobs)) dropped-in rounds (firstJobs mostJobs) few) e in
+      let x = boundBy (plainWorkload jobs) noQuanta (has (single k)) (has (remove blocked k)) k in
+      let kept = sym (ap (λ (b : Bool). b && (eqb (jobAt jobs k .cost) 0 || ltb 0 x)) e) ∙ settled (drops (plainWorkload jobs)) dropped-in rounds (firstJobs mostJobs) k l in
+      let w = neither (eqb (jobAt jobs k .cost) 0) (ltb 0 x) kept in
+      (omega (arith, eqb-false (jobAt jobs k .cost) 0 (w .0)), sym (bound-plain jobs noQuanta (has (single k)) (has (remove blocked k)) k) ∙ zero-of x (w .1), l)
+    where
+      few : firstJobs mostJobs < 2 ^ places
+      few = unfold firstJobs in omega arith
+
+      neither : (a b : Bool) → (a || b) ≡ false → (a ≡ false) × (b ≡ false)
+      neither true b e = absurd (false≢true (sym e))
+      neither false b e = (refl, e)
+
+      zero-of : (x : ℕ) → ltb 0 x ≡ false → x ≡ 0
+      zero-of x e = elim (decLe x 0) [ yes h ↦ omega arith | no h ↦ absurd (false≢true (sym e ∙ lt-ltb 0 x (omega arith))) ]
+
+  blocked-none : (q : List ℕ) (s a : Set) (k : ℕ) → Covered (length jobs) blocked s a k → secondBound jobs q s a k ≡ 0
+  blocked-none q s a k c =
+      let w = alone-none k (c .one) in
+      let own = has (single k) in
+      let alone : Alone (length jobs) own k = λ i il e. sym (eqb-true k i (sym (has-single k i (w .2)) ∙ e)) in
+      let here = withNeighbours s a k in
+      second-alone jobs k q noQuanta s own a alone
+      ∙ elim (decLe (bound jobs noQuanta own here k) 0) [
+        | yes h ↦ omega arith
+        | no h ↦ absurd (omega (
+          arith,
+          w .1,
+          easier jobs k noQuanta noQuanta own own here (has (remove blocked k)) (w .0)
+              (lighter-drop (length jobs) k noQuanta own own (λ i il e. e)) (λ i il e. e) (c .others) (omega arith),
+        ))
+      ]
+
+-- What the code finds is the bound.
+pub bound-found : (jobs : List Job) (q : List ℕ) (s a : Set) (k : ℕ) → boundBy (workload jobs) q s a k ≡ bound jobs q s a k
+bound-found jobs q s a k = found-by jobs (blockedOf (plainWorkload jobs)) q s a k (blocked-none jobs q s a k)
+
+-- ---- how the code finds it
+
+module _ (w : Workload) (q : List ℕ) (s a : Set) (k : ℕ) where
+  abbrev decides : Bool
+  decides = firstDecides (length (w .jobs)) (w .blocked) s a k
+
+  pub by-first : decides ≡ true → boundBy w q s a k ≡ oneBound w q s a k
+  unfolding boundBy
+  by-first e = ap (λ (b : Bool). cond b (oneBound w q s a k) (lesser (oneBound w q s a k) (oneBound w q (only k) (withNeighbours s a k) k))) e
+
+  -- A place past the table has no job, and no bound.
+  pub by-past : length (w .jobs) ≤ k → boundBy w q s a k ≡ 0
+  unfolding boundBy
+  by-past l = go (firstDecides (length (w .jobs)) (w .blocked) s a k)
+    where
+      past : (t : Set) (r : Set) → oneBound w q t r k ≡ 0
+      past t r = run-blank (inTable w) r (getD q k 0) (otherQuanta (length (w .jobs)) q t k) (jobAt (w .jobs) k) (List·getD-eq-default (w .jobs) blankJob l)
+
+      go : (b : Bool) → cond b (oneBound w q s a k) (lesser (oneBound w q s a k) (oneBound w q (only k) (withNeighbours s a k) k)) ≡ 0
+      go true = past s a
+      go false = lesser-second (oneBound w q s a k) _ (past s a) ∙ past (only k) (withNeighbours s a k)
+
+-- The second bound is the bound of the job alone, with its neighbours above too.
+pub by-both : (w : Workload) (q : List ℕ) (s a : Set) (k : ℕ) → firstDecides (length (w .jobs)) (w .blocked) s a k ≡ false
+    → boundBy w q s a k ≡ lesser (oneBound w q s a k) (boundBy w q (only k) (withNeighbours s a k) k)
+unfolding boundBy
+by-both w q s a k e =
+    ap (λ (b : Bool). cond b (oneBound w q s a k) (lesser (oneBound w q s a k) (oneBound w q (only k) (withNeighbours s a k) k))) e
+    ∙ ap (lesser (oneBound w q s a k)) (sym (by-first w q (only k) (withNeighbours s a k) k (only-decides (length (w .jobs)) (w .blocked) (withNeighbours s a k) k)))

@@ -1,12 +1,12 @@
--- Worked runs of a job's instances, each with the first instance that reaches the bound: one table, one computed statement.
--- Assumes nothing.
+-- Worked runs of a job's instances, each with the first instance that reaches the bound, and worked pairs of bounds: a table and a
+-- computed statement for each. Assumes nothing.
 use Prim.Native.Nat.{ℕ}
 use mathlib.Core.Path.{_≡_, refl}
 use mathlib.Core.List.{List, [], _∷_, map}
 use Rattle.sets.specs.Places.{sum, sumOver}
 use Rattle.sets.specs.Sets.{has}
 use Rattle.records.specs.declared.job.Job.{Job}
-use Rattle.response.specs.Demand.{ceilDiv, work, interference, otherQuanta, layerShare, demand, least, finish, Reached, none, larger, run, largestResponse}
+use Rattle.response.specs.Demand.{ceilDiv, work, interference, otherQuanta, layerShare, demand, least, finish, Reached, none, larger, run, largestResponse, firstBound, secondBound, bound}
 
 pub job : ℕ → ℕ → ℕ → Job
 job cost period deadline = record { id = 1; cost = cost; period = period; deadline = deadline }
@@ -57,3 +57,50 @@ cases =
 pub worked : map answered cases ≡ map (λ c. c .answer) cases
 unfolding job answered under beside reaches cases sum sumOver has ceilDiv work interference otherQuanta layerShare demand least finish larger run largestResponse
 worked = refl
+
+-- ---- two bounds
+
+-- The jobs, their quanta, the numbers of the layer and of the set above, a place, and the first bound, the second and the bound that the
+-- job there is to have.
+pub record Pair : Type 0 where
+  pub jobs : List Job
+  pub quanta : List ℕ
+  pub layer : ℕ
+  pub above : ℕ
+  pub place : ℕ
+  pub answer : ℕ × ℕ × ℕ
+
+pub bounds : Pair → ℕ × ℕ × ℕ
+bounds c =
+    (firstBound (c .jobs) (c .quanta) (has (c .layer)) (has (c .above)) (c .place), secondBound (c .jobs) (c .quanta) (has (c .layer)) (has (c .above)) (c .place), bound (c .jobs) (c .quanta) (has (c .layer)) (has (c .above)) (c .place))
+
+-- The first or the second of two jobs that share a level.
+pub pair : Job → Job → ℕ → ℕ → ℕ → ℕ × ℕ × ℕ → Pair
+pair one other p q place r = record { jobs = one ∷ other ∷ []; quanta = p ∷ q ∷ []; layer = 3; above = 0; place = place; answer = r }
+
+pub pairs : List Pair
+pairs =
+    -- the example of E2: the neighbour of the first has less work than quanta
+    pair (job 4 20 20) (job 2 20 20) 1 4 0 (20, 6, 6)
+    ∷ pair (job 4 20 20) (job 2 20 20) 1 4 1 (3, 6, 3)
+    -- a first bound of 0 gives way
+    ∷ pair (job 4 20 8) (job 2 20 20) 1 4 0 (0, 6, 6)
+    -- K2: a second bound of 0 gives way; K5: both are 0
+    ∷ pair (job 6 8 8) (job 5 22 22) 3 1 0 (8, 0, 8)
+    ∷ pair (job 6 8 8) (job 5 22 22) 4 1 1 (0, 0, 0)
+    -- equal bounds
+    ∷ pair (job 2 10 10) (job 2 10 10) 2 2 0 (4, 4, 4)
+    -- each bound is the largest response of a run of its own: responses 4, 3, 2 in the first, and 3, 4, 5 and so on in the second,
+    -- which does not close; taken instance by instance, the lesser would be 3, 3, 2
+    ∷ pair (job 2 3 6) (job 1 2 5) 3 4 1 (4, 0, 4)
+    -- a run that goes on in the first and closes at once in the second
+    ∷ pair (job 1 20 20) (job 2 5 9) 4 3 1 (7, 3, 3)
+    -- a job alone on its level below another: the two bounds are one
+    ∷ record { jobs = job 1 4 4 ∷ job 3 12 12 ∷ []; quanta = []; layer = 2; above = 1; place = 1; answer = (4, 4, 4) }
+    -- a job above the layer counts in both
+    ∷ record { jobs = job 1 4 4 ∷ job 4 20 20 ∷ job 1 20 20 ∷ []; quanta = 0 ∷ 1 ∷ 2 ∷ []; layer = 6; above = 1; place = 1; answer = (16, 7, 7) }
+    ∷ []
+
+pub lesser-worked : map bounds pairs ≡ map (λ c. c .answer) pairs
+unfolding job bounds pair pairs sum sumOver has ceilDiv work interference otherQuanta layerShare demand least finish larger run largestResponse bound
+lesser-worked = refl

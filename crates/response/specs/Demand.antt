@@ -1,7 +1,7 @@
--- The response-time test (01, and 02's E1 for deadlines past the period), from source document 004, section 4.3 and equations (7), (17)
--- and (18), with the first term of (17)'s minimum only. Assumes nothing.
-use Prim.Native.Nat.{ℕ, zero, suc, _+_, _*_, _/_, _-_}
-use mathlib.Core.Bool.{true, false, not, _&&_}
+-- The response-time test (01, and 02's E1 for deadlines past the period and E2 for the second bound), from source document 004, section
+-- 4.3 and equations (7), (17) and (18). Assumes nothing.
+use Prim.Native.Nat.{ℕ, zero, suc, _+_, _*_, _/_, _-_, min}
+use mathlib.Core.Bool.{true, false, not, _&&_, _||_}
 use mathlib.Core.List.{List}
 use lib.Dec.{eqb, leb, ltb}
 use lib.ListN.{length, getD}
@@ -22,9 +22,13 @@ work job t = ceilDiv t (job .period) * job .cost
 unfoldable pub interference : List Job → Set → ℕ → ℕ
 interference jobs above t = sumOver (length jobs) above (λ i. work (jobAt jobs i) t)
 
+-- The neighbours of the job at place k: the other jobs of its layer.
+abbrev pub neighbours : Set → ℕ → Set
+neighbours layer k i = layer i && not (eqb i k)
+
 -- "The sum of the other quanta" in the layer of the job at place k; n is the number of jobs.
 unfoldable pub otherQuanta : ℕ → List ℕ → Set → ℕ → ℕ
-otherQuanta n quanta layer k = sumOver n (λ i. layer i && not (eqb i k)) (λ i. getD quanta i 0)
+otherQuanta n quanta layer k = sumOver n (neighbours layer k) (λ i. getD quanta i 0)
 
 -- What the layer adds for so much own work: "the cycles", own work "divided by its quantum and rounded up, times the sum of the other
 -- quanta". A job alone on its level has no other quanta, so this is "0 for policy 1".
@@ -89,6 +93,29 @@ mostInstances = 64
 unfoldable pub largestResponse : List Job → List ℕ → Set → Set → ℕ → Reached
 largestResponse jobs quanta layer above k = run (finish jobs quanta layer above k) (jobAt jobs k .period) mostInstances 0 none
 
--- The bound of the job at place k in a layer with a set above.
+-- ---- two bounds (E2)
+
+-- The first bound: the neighbours count by their quanta.
+abbrev pub firstBound : List Job → List ℕ → Set → Set → ℕ → ℕ
+firstBound jobs quanta layer above k = largestResponse jobs quanta layer above k .response
+
+-- The set above, with "every other job of its layer as if it were above".
+abbrev pub withNeighbours : Set → Set → ℕ → Set
+withNeighbours layer above k i = above i || neighbours layer k i
+
+-- The layer of the job at place k without its neighbours.
+abbrev pub only : ℕ → Set
+only k i = eqb i k
+
+-- The "second bound": the neighbours count as if they were above, so no quanta count.
+abbrev pub secondBound : List Job → List ℕ → Set → Set → ℕ → ℕ
+secondBound jobs quanta layer above k = largestResponse jobs quanta (only k) (withNeighbours layer above k) k .response
+
+-- "The lesser of the two is the bound, one that is 0 giving way to the other."
+abbrev pub lesser : ℕ → ℕ → ℕ
+lesser first second = elim (eqb first 0) [ true ↦ second | false ↦ elim (eqb second 0) [ true ↦ first | false ↦ min first second ] ]
+
+-- The bound of the job at place k in a layer with a set above: the lesser of its two bounds, each the largest response of a run of its
+-- own. A job of policy 1 has no neighbours, so that its two bounds are one.
 unfoldable pub bound : List Job → List ℕ → Set → Set → ℕ → ℕ
-bound jobs quanta layer above k = largestResponse jobs quanta layer above k .response
+bound jobs quanta layer above k = lesser (firstBound jobs quanta layer above k) (secondBound jobs quanta layer above k)

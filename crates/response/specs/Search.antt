@@ -1,16 +1,17 @@
 -- How the code finds a bound: each finish by iteration, from a time that no such time is below. `bound-found` (proofs) says that this is
 -- the bound. Assumes nothing.
 use Prim.Native.Nat.{ℕ, zero, suc, _+_, _*_, _/_, _-_, min, max}
-use mathlib.Core.Bool.{Bool, cond, not, _&&_}
+use mathlib.Core.Bool.{Bool, cond, not, _&&_, _||_}
 use mathlib.Core.List.{List}
 use lib.Dec.{eqb, leb, ltb}
 use lib.ListN.{length, getD}
-use Rattle.sets.specs.Places.{sumOver, listOf}
-use Rattle.sets.specs.Sets.{Set}
+use Rattle.sets.specs.Places.{sumOver, every, listOf}
+use Rattle.sets.specs.Sets.{Set, has, single, remove, firstJobs}
+use Rattle.records.specs.Limits.{mostJobs}
 use Rattle.records.specs.Jobs.{jobAt}
 use Rattle.records.specs.declared.job.Job.{Job}
 use Rattle.response.specs.declared.workload.Workload.{Workload}
-use Rattle.response.specs.Demand.{ceilDiv, interference, otherQuanta, mostInstances}
+use Rattle.response.specs.Demand.{ceilDiv, interference, neighbours, otherQuanta, mostInstances, withNeighbours, only, lesser}
 
 -- The whole processor, in the parts by which utilisation is counted.
 abbrev pub whole : ℕ
@@ -20,9 +21,16 @@ whole = 1048576
 unfoldable pub utilisation : Job → ℕ
 utilisation job = min (job .cost * whole / job .period) whole
 
--- The jobs of a table with the utilisation of each.
-abbrev pub workload : List Job → Workload
-workload jobs = record { jobs = jobs; shares = listOf (λ i. utilisation (jobAt jobs i)) (length jobs) }
+-- The jobs of a table and the utilisation of each.
+pub record Table : Type 0 where
+  pub jobs : List Job
+  pub shares : List ℕ
+
+abbrev pub sharesOf : List Job → List ℕ
+sharesOf jobs = listOf (λ i. utilisation (jobAt jobs i)) (length jobs)
+
+abbrev pub tableOf : List Job → Table
+tableOf jobs = record { jobs = jobs; shares = sharesOf jobs }
 
 -- The utilisation of a set of jobs.
 unfoldable pub load : List ℕ → Set → ℕ
@@ -54,10 +62,10 @@ longOf jobs set longest i = set i && not (leb (jobAt jobs i .period) longest)
 
 -- An estimate that no time from t on which equals its demand lies below: the jobs with long periods count as at t, those with short ones
 -- by their utilisation.
-unfoldable pub estimate : Workload → Set → ℕ → ℕ → ℕ → ℕ
-estimate workload above longest own t =
-    (own + interference (workload .jobs) (longOf (workload .jobs) above longest) t) * whole
-    / max 1 (free (workload .shares) (shortOf (workload .jobs) above longest))
+unfoldable pub estimate : Table → Set → ℕ → ℕ → ℕ → ℕ
+estimate table above longest own t =
+    (own + interference (table .jobs) (longOf (table .jobs) above longest) t) * whole
+    / max 1 (free (table .shares) (shortOf (table .jobs) above longest))
 
 -- The longest period that counts as short is the time at which estimates begin divided by shortPart; they begin after so many plain
 -- steps. Both numbers decide how long a search takes, and not what it finds.
@@ -68,22 +76,22 @@ abbrev pub plainSteps : ℕ
 plainSteps = 4
 
 -- The least time up to d for own demand beside the interference of the set above, from t on by the iteration with estimates.
-unfoldable pub farTime : Workload → Set → ℕ → ℕ → ℕ → ℕ
-farTime workload above own d t =
-    climb (λ x. own + interference (workload .jobs) above x) (estimate workload above (t / shortPart) own) d (suc d) t
+unfoldable pub farTime : Table → Set → ℕ → ℕ → ℕ → ℕ
+farTime table above own d t =
+    climb (λ x. own + interference (table .jobs) above x) (estimate table above (t / shortPart) own) d (suc d) t
 
 -- The same, after some plain steps from t on.
-unfoldable pub timeFrom : Workload → Set → ℕ → ℕ → ℕ → ℕ
-timeFrom workload above own d t =
-    farTime workload above own d (steps (λ x. own + interference (workload .jobs) above x) d plainSteps t)
+unfoldable pub timeFrom : Table → Set → ℕ → ℕ → ℕ → ℕ
+timeFrom table above own d t =
+    farTime table above own d (steps (λ x. own + interference (table .jobs) above x) d plainSteps t)
 
 -- The least time up to d for own demand beside the interference of the set above, which leaves `left` of the processor: where it leaves
 -- nothing there is none; else none is below own / left, and the search starts there, or at `before` if that is later. Without own demand
 -- it starts at 1 or at `before`.
-unfoldable pub timeFor : Workload → Set → ℕ → ℕ → ℕ → ℕ → ℕ
-timeFor workload above left own d before =
-    cond (eqb own 0) (timeFrom workload above own d (max 1 before))
-    (cond (eqb left 0) 0 (timeFrom workload above own d (max (own * whole / left) before)))
+unfoldable pub timeFor : Table → Set → ℕ → ℕ → ℕ → ℕ → ℕ
+timeFor table above left own d before =
+    cond (eqb own 0) (timeFrom table above own d (max 1 before))
+    (cond (eqb left 0) 0 (timeFrom table above own d (max (own * whole / left) before)))
 
 -- ---- the run of instances
 
@@ -92,9 +100,9 @@ unfoldable pub ownDemand : ℕ → ℕ → ℕ → ℕ
 ownDemand quantum others own = own + ceilDiv own quantum * others
 
 -- The finish of instance j of a job with these times as it is found, from a time `before` on.
-unfoldable pub finishBy : Workload → Set → ℕ → ℕ → ℕ → ℕ → ℕ → ℕ → ℕ → ℕ → ℕ
-finishBy workload above left quantum others cost period deadline j before =
-    timeFor workload above left (ownDemand quantum others (suc j * cost)) (j * period + deadline) before
+unfoldable pub finishBy : Table → Set → ℕ → ℕ → ℕ → ℕ → ℕ → ℕ → ℕ → ℕ → ℕ
+finishBy table above left quantum others cost period deadline j before =
+    timeFor table above left (ownDemand quantum others (suc j * cost)) (j * period + deadline) before
 
 -- The largest response as it is found: each finish is sought from the finish of the instance before.
 unfoldable pub runBy : (ℕ → ℕ → ℕ) → ℕ → ℕ → ℕ → ℕ → ℕ → ℕ
@@ -105,20 +113,78 @@ runBy finishes period (suc n) j before largest =
     (runBy finishes period n (suc j) (finishes j before) (max largest (finishes j before - j * period))))
 
 -- The largest response of a job beside the set above.
-abbrev pub largestBy : Workload → Set → ℕ → ℕ → ℕ → Job → ℕ
-largestBy workload above left quantum others job =
-    runBy (finishBy workload above left quantum others (job .cost) (job .period) (job .deadline)) (job .period) mostInstances 0 0 0
+abbrev pub largestBy : Table → Set → ℕ → ℕ → ℕ → Job → ℕ
+largestBy table above left quantum others job =
+    runBy (finishBy table above left quantum others (job .cost) (job .period) (job .deadline)) (job .period) mostInstances 0 0 0
 
 -- The layer asks for more than is left of the processor: within each period a job needs its cost and the layer's share for it, at least
 -- cost · (quantum + others) / quantum. Then no instance finishes by its next release.
 unfoldable pub runsOn : ℕ → ℕ → ℕ → Job → Bool
 runsOn left quantum others job = ltb 0 quantum && ltb (job .period * quantum * left) (job .cost * (quantum + others) * whole)
 
+-- ---- both bounds
+
+abbrev pub inTable : Workload → Table
+inTable workload = record { jobs = workload .jobs; shares = workload .shares }
+
+-- One of the two bounds as it is found, beside a sum of other quanta and below a set.
+unfoldable pub runBound : Table → Set → ℕ → ℕ → Job → ℕ
+runBound table above quantum others job =
+    let left = free (table .shares) above in
+    cond (runsOn left quantum others job) 0 (largestBy table above left quantum others job)
+
+-- The same of the job at place k in a layer.
+abbrev pub oneBound : Workload → List ℕ → Set → Set → ℕ → ℕ
+oneBound workload quanta layer above k =
+    runBound (inTable workload) above (getD quanta k 0) (otherQuanta (length (workload .jobs)) quanta layer k) (jobAt (workload .jobs) k)
+
+-- The first bound of a job among n is the bound: the job has no neighbours, or it is one of the jobs that are blocked and the others of them are above it
+-- or its neighbours.
+unfoldable pub firstDecides : ℕ → ℕ → Set → Set → ℕ → Bool
+firstDecides n blocked layer above k =
+    every (λ i. not (neighbours layer k i)) n
+    || (has blocked k && every (λ i. not (has (remove blocked k) i) || withNeighbours layer above k i) n)
+
 -- The bound as it is found.
 unfoldable pub boundBy : Workload → List ℕ → Set → Set → ℕ → ℕ
 boundBy workload quanta layer above k =
-    let job = jobAt (workload .jobs) k in
-    let left = free (workload .shares) above in
-    let quantum = getD quanta k 0 in
-    let others = otherQuanta (length (workload .jobs)) quanta layer k in
-    cond (runsOn left quantum others job) 0 (largestBy workload above left quantum others job)
+    cond (firstDecides (length (workload .jobs)) (workload .blocked) layer above k) (oneBound workload quanta layer above k)
+    (lesser (oneBound workload quanta layer above k) (oneBound workload quanta (only k) (withNeighbours layer above k) k))
+
+-- ---- the jobs that are blocked
+
+-- The jobs of a table with their utilisations, no job known to be blocked.
+abbrev pub plainWorkload : List Job → Workload
+plainWorkload jobs = record { jobs = jobs; shares = sharesOf jobs; blocked = 0 }
+
+-- A job alone in its layer has no quantum.
+abbrev pub noQuanta : List ℕ
+noQuanta = listOf (λ i. 0) mostJobs
+
+-- The job at place k is no blocked job of a set: it has no cost, or it is served alone below the others of the set.
+unfoldable pub drops : Workload → ℕ → ℕ → Bool
+drops workload set k =
+    has set k
+    && (eqb (jobAt (workload .jobs) k .cost) 0 || ltb 0 (boundBy workload noQuanta (has (single k)) (has (remove set k)) k))
+
+-- The set without the jobs of its first n places that are dropped, the last of them first.
+unfoldable pub dropFrom : (ℕ → ℕ → Bool) → ℕ → ℕ → ℕ
+dropFrom drops zero set = set
+dropFrom drops (suc n) set = dropFrom drops n (cond (drops set n) (remove set n) set)
+
+-- The same again and again until no job is dropped, n times at most; then the empty set.
+unfoldable pub settle : (ℕ → ℕ → Bool) → ℕ → ℕ → ℕ
+settle drops zero set = 0
+settle drops (suc n) set = cond (eqb (dropFrom drops mostJobs set) set) set (settle drops n (dropFrom drops mostJobs set))
+
+-- Enough rounds: each but the last drops a job.
+abbrev pub rounds : ℕ
+rounds = 9
+
+-- Jobs of which none is served alone below the others.
+abbrev pub blockedOf : Workload → ℕ
+blockedOf workload = settle (drops workload) rounds (firstJobs mostJobs)
+
+-- The jobs of a table with the utilisation of each, and those that are blocked.
+abbrev pub workload : List Job → Workload
+workload jobs = record { jobs = jobs; shares = sharesOf jobs; blocked = blockedOf (plainWorkload jobs) }

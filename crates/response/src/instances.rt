@@ -1,10 +1,12 @@
-// The run of a job's instances: the largest response up to the first instance that finishes by its next release.
+// The run of a job's instances: the largest response up to the first instance that finishes by its next release, which is one of the two
+// bounds.
 ghost use mathlib.Core.Path.{_≡_};
 ghost use Prim.Native.Nat.{_*_, _^_, _<_, _≤_};
 ghost use Rattle.sets.specs.Sets.{has};
-ghost use Rattle.response.specs.Search.{whole, ownDemand, largestBy, runsOn};
+ghost use Rattle.response.specs.Search.{whole, ownDemand, largestBy, runsOn, runBound};
 use crate::demand;
 use crate::search;
+use crate::workload;
 use crate::workload::WHOLE;
 use records::job::Job;
 
@@ -12,7 +14,7 @@ use records::job::Job;
 const INSTANCES: u32 = 64;
 
 // Whether the layer asks for more than is left of the processor: then no instance finishes by its next release.
-pub(crate) fn runs_on(left: u64, quantum: u8, others: u32, job: Job) -> bool
+fn runs_on(left: u64, quantum: u8, others: u32, job: Job) -> bool
     requires { ⌜ (left ≤ whole) × (others ≤ 2 ^ 11) ⌝ }
     ensures { λ r. ⌜ r ≡ runsOn left quantum others job ⌝ }
 {
@@ -35,7 +37,7 @@ fn own_demand(cost: u32, count: u32, quantum: u8, others: u32) -> u64
 
 // The largest response of a job up to the first instance that finishes by its next release; 0 where a finish does not exist by the
 // instance's deadline, or where the last instance still runs past its next release.
-pub(crate) fn largest_response(
+fn largest_response(
     jobs: [Job; Job::MOST],
     shares: [u32; Job::MOST],
     above: u8,
@@ -71,4 +73,23 @@ pub(crate) fn largest_response(
         instance += 1;
     }
     0
+}
+
+// One of the two bounds: the largest response of a job beside a sum of other quanta and below a set.
+pub(crate) fn run_bound(
+    jobs: [Job; Job::MOST],
+    shares: [u32; Job::MOST],
+    above: u8,
+    quantum: u8,
+    others: u32,
+    job: Job,
+) -> u16
+    requires { ⌜ others ≤ 2 ^ 11 ⌝ }
+    ensures { λ r. ⌜ r ≡ runBound (record { jobs = jobs; shares = shares }) (has above) quantum others job ⌝ }
+{
+    let left = workload::free(shares, above);
+    if runs_on(left, quantum, others, job) {
+        return 0;
+    }
+    largest_response(jobs, shares, above, left, quantum, others, job)
 }

@@ -5,13 +5,14 @@ ghost use Rattle.response.specs.Demand.{bound};
 use records::job::Job;
 use workload::Workload;
 
+mod blocked;
 mod demand;
 mod instances;
 mod search;
 pub mod workload;
 
-// The bound of the job at a place of a table: the largest response of its instances up to the first that finishes by the next release, or
-// 0.
+// The bound of the job at a place of a table: the lesser of its two bounds, each the largest response of its instances up to the first that
+// finishes by the next release, or 0.
 // The sets' members are places of the table; `quanta` has the layer's quanta at their places.
 pub fn bound(
     jobs: [Job; Job::MOST],
@@ -22,5 +23,5 @@ pub fn bound(
 ) -> u16
     ensures { λ r. ⌜ r ≡ bound jobs quanta (has layer) (has above) job ⌝ }
 {
-    Workload::new(jobs).bound(quanta, layer, above, job)
+    Workload::plain(jobs).bound(quanta, layer, above, job)
 }

@@ -1,8 +1,11 @@
 // The jobs of a table with the utilisation of each, and the bound of a job.
 ghost use mathlib.Core.Path.{_≡_};
-ghost use Prim.Native.Nat.{_^_, _≤_};
+ghost use Prim.Native.Nat.{_^_, _<_, _≤_};
 ghost use Rattle.sets.specs.Sets.{has};
-ghost use Rattle.response.specs.Search.{whole, utilisation, workload, load, free, boundBy};
+ghost use Rattle.records.specs.Limits.{mostJobs};
+ghost use Rattle.response.specs.Demand.{lesser};
+ghost use Rattle.response.specs.Search.{whole, utilisation, plainWorkload, workload, load, free, firstDecides, boundBy};
+use crate::blocked;
 use crate::demand;
 use crate::instances;
 use records::job::Job;
@@ -14,6 +17,8 @@ pub struct Workload {
     pub jobs: [Job; Job::MOST],
     // The utilisation of each job.
     pub shares: [u32; Job::MOST],
+    // Jobs of which none is served alone below the others: such a job needs no second bound where the others are above it or beside it.
+    pub blocked: u8,
 }
 
 // A job's utilisation, rounded down; the whole where it is more.
@@ -56,9 +61,41 @@ pub(crate) fn free(shares: [u32; Job::MOST], set: u8) -> u64
     WHOLE - taken
 }
 
+// Whether the first bound is the bound, for a reason that is known without the second.
+fn first_decides(blocked: u8, layer: u8, above: u8, job: usize) -> bool
+    requires { ⌜ job < mostJobs ⌝ }
+    ensures { λ r. ⌜ r ≡ firstDecides mostJobs blocked (has layer) (has above) job ⌝ }
+{
+    let neighbours = sets::remove(layer, job);
+    if neighbours == 0 {
+        return true;
+    }
+    if !sets::contains(blocked, job) {
+        return false;
+    }
+    sets::is_within(sets::remove(blocked, job), sets::join(above, neighbours))
+}
+
+// The lesser of two bounds, one that is 0 giving way to the other.
+fn lesser(first: u16, second: u16) -> u16
+    ensures { λ r. ⌜ r ≡ lesser first second ⌝ }
+{
+    if first == 0 {
+        return second;
+    }
+    if second == 0 {
+        return first;
+    }
+    if second < first {
+        return second;
+    }
+    first
+}
+
 impl Workload {
-    pub fn new(jobs: [Job; Job::MOST]) -> Workload
-        ensures { λ r. ⌜ r ≡ workload jobs ⌝ }
+    // No job is known to be blocked.
+    pub fn plain(jobs: [Job; Job::MOST]) -> Workload
+        ensures { λ r. ⌜ r ≡ plainWorkload jobs ⌝ }
     {
         let mut shares = [0u32; Job::MOST];
         let mut i = 0;
@@ -66,10 +103,29 @@ impl Workload {
             shares[i] = utilisation(jobs[i]);
             i += 1;
         }
-        Workload { jobs, shares }
+        Workload {
+            jobs,
+            shares,
+            blocked: 0,
+        }
     }
 
-    // The bound of the job at a place, in a layer with a set above.
+    // With the jobs that are blocked, for callers that ask for the bounds of many sets.
+    pub fn new(jobs: [Job; Job::MOST]) -> Workload
+        ensures { λ r. ⌜ r ≡ workload jobs ⌝ }
+    {
+        let plain = Workload::plain(jobs);
+        let blocked = blocked::blocked_jobs(plain);
+        let shares = plain.shares;
+        Workload {
+            jobs,
+            shares,
+            blocked,
+        }
+    }
+
+    // The bound of the job at a place, in a layer with a set above: the lesser of its two bounds. The second is the bound of the job
+    // alone with its neighbours above too.
     pub fn bound(self, quanta: [u8; Job::MOST], layer: u8, above: u8, job: usize) -> u16
         ensures { λ r. ⌜ r ≡ boundBy self quanta (has layer) (has above) job ⌝ }
     {
@@ -79,10 +135,11 @@ impl Workload {
         let entry = self.jobs[job];
         let quantum = quanta[job];
         let others = demand::other_quanta(quanta, layer, job);
-        let left = free(self.shares, above);
-        if instances::runs_on(left, quantum, others, entry) {
-            return 0;
+        let first = instances::run_bound(self.jobs, self.shares, above, quantum, others, entry);
+        if first_decides(self.blocked, layer, above, job) {
+            return first;
         }
-        instances::largest_response(self.jobs, self.shares, above, left, quantum, others, entry)
+        let all = sets::join(above, sets::remove(layer, job));
+        lesser(first, self.bound(quanta, sets::single(job), all, job))
     }
 }

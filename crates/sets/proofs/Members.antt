@@ -11,7 +11,7 @@ use lib.Bits.{bitAnd, bitOr, and-step, or-step, and-shr, or-shr, and-le-l}
 use lib.Dec.{eqb, ltb, eqb·zero-suc, eqb·suc-zero, eqb·suc-suc}
 use lib.Pow.{pow-add, pow-pos, pow-mono, pow-lt}
 use borrow.Author.Tests.{eqb-true, eq-eqb, ne-eqb, not-true, not-false, lt-ltb, le-ltb}
-use Rattle.sets.specs.Sets.{Set, places, has, single, insert, rest, remove, Sub, Collects}
+use Rattle.sets.specs.Sets.{Set, places, has, single, insert, join, rest, remove, Sub, Collects}
 use Rattle.sets.proofs.Places.{fails-at}
 
 -- ---- the lowest digit and the half
@@ -161,9 +161,19 @@ pub has-insert : (s i j : ℕ) → i < places → has (insert s i) j ≡ (has s 
 unfolding insert
 has-insert s i j l = has-or j s (single i) ∙ ap (λ (b : Bool). has s j || b) (has-single i j l)
 
+pub has-join : (i r s : ℕ) → has (join r s) i ≡ (has r i || has s i)
+unfolding join
+has-join i r s = has-or i r s
+
 pub has-remove : (s i j : ℕ) → i < places → has (remove s i) j ≡ (has s j && not (eqb i j))
 unfolding remove
 has-remove s i j l = has-rest j s (single i) ∙ ap (λ (b : Bool). has s j && not b) (has-single i j l)
+
+pub eqb-swap : (a b : ℕ) → eqb a b ≡ eqb b a
+eqb-swap a b = elim (ℕ-discrete a b) [
+  | yes e ↦ eq-eqb a b e ∙ sym (eq-eqb b a (sym e))
+  | no e ↦ ne-eqb a b e ∙ sym (ne-eqb b a (λ (x : b ≡ a). e (sym x)))
+]
 
 -- The members of s but one, at a place below the last.
 pub has-others : (s k i : ℕ) → i < places → has (remove s k) i ≡ (has s i && not (eqb i k))
@@ -173,12 +183,6 @@ has-others s k i l = elim (decLe (suc k) places) [
   | no g ↦ past (omega arith)
 ]
   where
-    eqb-swap : (a b : ℕ) → eqb a b ≡ eqb b a
-    eqb-swap a b = elim (ℕ-discrete a b) [
-      | yes e ↦ eq-eqb a b e ∙ sym (eq-eqb b a (sym e))
-      | no e ↦ ne-eqb a b e ∙ sym (ne-eqb b a (λ (x : b ≡ a). e (sym x)))
-    ]
-
     past : places ≤ k → has (remove s k) i ≡ (has s i && not (eqb i k))
     past g =
         has-rest i s (single k)

@@ -27,6 +27,10 @@ single i = 2 ^ i % 2 ^ places
 unfoldable pub insert : ℕ → ℕ → ℕ
 insert s i = bitOr s (single i)
 
+-- The members of either.
+unfoldable pub join : ℕ → ℕ → ℕ
+join r s = bitOr r s
+
 -- The members of r that are not in s: the rest of r.
 unfoldable pub rest : ℕ → ℕ → ℕ
 rest r s = r - bitAnd r s

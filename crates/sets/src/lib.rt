@@ -1,6 +1,6 @@
 // Sets of at most eight jobs as the bits of one byte: the list's first job is 1, the second 2, the third 4 and so on.
 ghost use mathlib.Core.Path.{_≡_};
-ghost use Rattle.sets.specs.Sets.{has, single, insert, rest, remove, within, size, lowest, firstJobs};
+ghost use Rattle.sets.specs.Sets.{has, single, insert, join, rest, remove, within, size, lowest, firstJobs};
 
 pub mod order;
 
@@ -18,7 +18,7 @@ pub fn contains(set: u8, job: usize) -> bool
 }
 
 // The set of one job; empty past the last place.
-fn single(job: usize) -> u8
+pub fn single(job: usize) -> u8
     ensures { λ r. ⌜ r ≡ single job ⌝ }
 {
     if PLACES <= job {
@@ -32,6 +32,13 @@ pub fn insert(set: u8, job: usize) -> u8
     ensures { λ r. ⌜ r ≡ insert set job ⌝ }
 {
     set | single(job)
+}
+
+// The members of either set.
+pub fn join(set: u8, other: u8) -> u8
+    ensures { λ r. ⌜ r ≡ join set other ⌝ }
+{
+    set | other
 }
 
 // The members of `set` that are not in `part`.

@@ -4,21 +4,21 @@ use lib.ListN.{take}
 use Rattle.records.specs.Limits.{mostJobs}
 use Rattle.records.specs.Records.{table}
 use Rattle.records.specs.declared.job.Job.{Job}
-use Rattle.response.specs.Search.{workload}
+use Rattle.response.specs.Search.{plainWorkload}
 use Rattle.response.specs.declared.workload.Workload.{Workload}
 use Rattle.marker.specs.Bounds.{boundsOf}
 use borrow.Author.Needs.{needs}
 use Rattle.marker.proofs.put_bounds.Statement.{statement}
 use Rattle.marker.proofs.put_bounds.Tie as tie
 
-new-requires : tie.Need-new-requires
-new-requires c κs = search needs
+plain-requires : tie.Need-plain-requires
+plain-requires c κs = search needs
 
 bounds-of-requires : tie.Need-bounds-of-requires
 bounds-of-requires c κs =
-    let e = c .new .ensures in
+    let e = c .plain .ensures in
     let a = c .before .before .args in
-    (c .before .before .pre .0, e ∙ ap workload (sym (ap (λ (w : Workload). w .jobs) e)))
+    (c .before .before .pre .0, e ∙ ap plainWorkload (sym (ap (λ (w : Workload). w .jobs) e)))
 
 encode-requires : tie.Need-encode-requires
 encode-requires c κs = search needs
@@ -30,9 +30,9 @@ returns : tie.Need-returns
 returns c =
     let b = c .before .before .before .before in
     let a = b .before .before .before .args in
-    let e = ap (λ (w : Workload). w .jobs) (b .before .new .ensures) in
+    let e = ap (λ (w : Workload). w .jobs) (b .before .plain .ensures) in
     (b .bounds-of .ensures ∙ ap (λ (l : List Job). table mostJobs 0 (boundsOf (take (a .n) l) (a .settings))) e, c .before .before .encode .ensures)
 
 pub put-bounds-spec : {M : Type 1} → statement M
 put-bounds-spec =
-    tie.close (tie.spec new-requires bounds-of-requires encode-requires same-length returns)
+    tie.close (tie.spec plain-requires bounds-of-requires encode-requires same-length returns)

@@ -5,15 +5,14 @@ use mathlib.Core.List.{List}
 use native.Mathlib.Omega.{arith}
 use Rattle.sets.specs.Sets.{has}
 use Rattle.records.specs.declared.job.Job.{Job}
-use Rattle.response.specs.declared.workload.Workload.{Workload}
 use Rattle.response.specs.Demand.{interference}
-use Rattle.response.specs.Search.{steps, plainSteps, farTime, timeFrom, timeFor}
+use Rattle.response.specs.Search.{Table, steps, plainSteps, farTime, timeFrom, timeFor}
 use Rattle.response.proofs.Climbing.{loop-past, loop-found, loop-falls, steps-none, steps-past, steps-end, steps-on, time-idle, time-full, time-start}
 use borrow.Author.Needs.{needs}
 use Rattle.response.proofs.search.time_for.Statement.{statement}
 use Rattle.response.proofs.search.time_for.Tie as tie
 
-abbrev table : List Job → List ℕ → Workload
+abbrev table : List Job → List ℕ → Table
 table jobs shares = record { jobs = jobs; shares = shares }
 
 -- What is sought is what is found from t on after the plain steps that are left, and t is not before `before`.
