@@ -1,5 +1,6 @@
-//! The entries of the scope document with its change request E1 as plain functions, written by
-//! direct reading and exhaustive search, and the generation of cases with their expected answers.
+//! The entries of the scope document with its change requests E1 and E2 as plain functions, written
+//! by direct reading and exhaustive search, and the generation of cases with their expected
+//! answers.
 
 pub mod configuration;
 pub mod desk;

@@ -65,19 +65,23 @@ impl LeastTimes {
 pub struct Layer {
     members: Vec<Job>,
     least_times: LeastTimes,
+    /// By member. Quanta play no part in a second bound, so it is the same for every list of them.
+    has_second_bound: Vec<bool>,
 }
 
 impl Layer {
-    /// The layer of its members and of the jobs above.
-    pub fn new(members: Vec<Job>, above: Vec<Job>) -> Layer {
+    /// The layer of its members and of the jobs above, with whether each member's second bound is
+    /// not 0.
+    pub fn new(members: Vec<Job>, above: Vec<Job>, has_second_bound: Vec<bool>) -> Layer {
         Layer {
             members,
             least_times: LeastTimes::new(above),
+            has_second_bound,
         }
     }
 
-    /// Whether a member has "a bound that is not 0", its layer having this demand on own work.
-    fn has_bound(&mut self, member: usize, layer_demand: impl Fn(u64) -> u64) -> bool {
+    /// Whether a member's first bound is not 0, its layer having this demand on own work.
+    fn has_first_bound(&mut self, member: usize, layer_demand: impl Fn(u64) -> u64) -> bool {
         let least_times = &mut self.least_times;
         let run = run_of_job(&self.members[member], layer_demand, |demand, _, latest| {
             least_times.finish(demand, latest)
@@ -85,16 +89,19 @@ impl Layer {
         run.bound() != 0
     }
 
-    /// Whether the set's only job is served: "A set of one takes policy 1 and quantum 0."
+    /// Whether the set's only job is served: "A set of one takes policy 1 and quantum 0." It has
+    /// the first bound alone.
     pub fn serves_single(&mut self) -> bool {
-        self.has_bound(0, |own_work| own_work)
+        self.has_first_bound(0, |own_work| own_work)
     }
 
-    /// Whether a member is served with its own quantum and the sum of the other quanta.
+    /// Whether a member has "a bound that is not 0" with its own quantum and the sum of the other
+    /// quanta. As a bound that is 0 gives way to the other, one of the two is enough.
     fn serves_member(&mut self, member: usize, quantum: u8, other_quanta: u64) -> bool {
-        self.has_bound(member, |own_work| {
-            round_robin_demand(own_work, quantum, other_quanta)
-        })
+        self.has_second_bound[member]
+            || self.has_first_bound(member, |own_work| {
+                round_robin_demand(own_work, quantum, other_quanta)
+            })
     }
 
     /// Whether a list of quanta gives "each of its jobs a bound that is not 0".
@@ -109,9 +116,10 @@ impl Layer {
     }
 
     /// Whether some member is not served even with the highest quantum for itself and the lowest
-    /// for the others. Then no list serves: a larger own quantum never raises the demand on an
-    /// instance, a larger quantum of another never lowers it, and a job that is served stays served
-    /// when the demands on its instances fall, as no instance then finishes later.
+    /// for the others. Then no list serves. Its second bound is 0 whatever the quanta. So is its
+    /// first: a larger own quantum never raises the demand on an instance, a larger quantum of
+    /// another never lowers it, and a first bound that is not 0 stays so when the demands on the
+    /// instances fall, as no instance then finishes later.
     fn is_hopeless(&mut self, range: QuantumRange) -> bool {
         let count = self.members.len();
         let other_quanta = (count as u64 - 1) * u64::from(range.lowest);

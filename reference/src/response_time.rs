@@ -1,11 +1,11 @@
-//! The response-time test: the demand on a job's instances, their finishes and responses, the job's
-//! bound, and the entry that writes bounds.
+//! The response-time test: the demand on a job's instances, their finishes and responses, a job's
+//! two bounds and the lesser of them, and the entry that writes bounds.
 //!
 //! Times and demands are eight-byte numbers. A time is at most 64 * 60,000 and so is an instance's
 //! own work. A layer's demand is at most that work times 1 + 7 * 64, and a job above adds at most
 //! t + T, as its C is at most its T.
 
-use crate::configuration::{jobs_and_settings, Setting, FIFO, NOT_PLACED};
+use crate::configuration::{jobs_and_settings, Setting, FIFO, NOT_PLACED, ROUND_ROBIN};
 use crate::jobs::Job;
 use crate::refusal::{judge_output, Refusal};
 
@@ -105,6 +105,17 @@ pub fn jobs_above(jobs: &[Job], settings: &[Setting], index: usize) -> Vec<Job> 
     above
 }
 
+/// The other jobs of a placed job's layer.
+pub fn neighbours(jobs: &[Job], settings: &[Setting], index: usize) -> Vec<Job> {
+    let mut neighbours = Vec::new();
+    for (other_index, (job, setting)) in jobs.iter().zip(settings).enumerate() {
+        if other_index != index && setting.level == settings[index].level {
+            neighbours.push(*job);
+        }
+    }
+    neighbours
+}
+
 /// The run of a job's instances. `layer_demand` answers the demand of the job's layer on own work.
 /// `finish_between` answers, for such a demand, the least t from an earliest to a latest one that
 /// equals it plus the interference.
@@ -149,25 +160,94 @@ pub fn run_of_job(
     run
 }
 
-/// The run of a placed job's instances: "its finish is the least t that equals its demand", sought
-/// by trying every t.
-pub fn run(jobs: &[Job], settings: &[Setting], index: usize) -> Run {
+/// A way to find a finish: from a layer's demand and the jobs above, the least t from an earliest
+/// to a latest one that equals the demand plus the interference.
+pub type FindFinish = fn(u64, &[Job], u64, u64) -> Option<u64>;
+
+/// "its finish is the least t that equals its demand", sought by trying every t.
+pub fn finish_by_search(
+    layer_demand: u64,
+    above: &[Job],
+    earliest: u64,
+    latest: u64,
+) -> Option<u64> {
+    (earliest..=latest).find(|time| layer_demand + total_interference(above, *time) == *time)
+}
+
+/// The run of a job alone on its level, below these jobs.
+pub fn run_alone(job: &Job, above: &[Job], find: FindFinish) -> Run {
+    run_of_job(
+        job,
+        |own_work| own_work,
+        |demand, earliest, latest| find(demand, above, earliest, latest),
+    )
+}
+
+/// The run that settles a placed job's first bound: its layer's others take part by their quanta.
+pub fn first_run(jobs: &[Job], settings: &[Setting], index: usize, find: FindFinish) -> Run {
     let above = jobs_above(jobs, settings, index);
     run_of_job(
         &jobs[index],
         |own_work| layer_demand(settings, index, own_work),
-        |demand, earliest, latest| {
-            (earliest..=latest).find(|time| demand + total_interference(&above, *time) == *time)
-        },
+        |demand, earliest, latest| find(demand, &above, earliest, latest),
     )
+}
+
+/// The run that settles a policy 2 job's second bound, which "counts every other job of its layer
+/// as if it were above". Quanta play no part in it: the job is as if alone on its level.
+pub fn second_run(jobs: &[Job], settings: &[Setting], index: usize, find: FindFinish) -> Run {
+    let mut above = jobs_above(jobs, settings, index);
+    above.extend(neighbours(jobs, settings, index));
+    run_alone(&jobs[index], &above, find)
+}
+
+/// The first bound of a job. A job not placed has none: 0.
+pub fn first_bound(jobs: &[Job], settings: &[Setting], index: usize) -> u16 {
+    if settings[index].policy == NOT_PLACED {
+        return 0;
+    }
+    first_run(jobs, settings, index, finish_by_search).bound()
+}
+
+/// The second bound of a job. Only a policy 2 job has one; for others it is 0, so that it gives
+/// way.
+pub fn second_bound(jobs: &[Job], settings: &[Setting], index: usize) -> u16 {
+    if settings[index].policy != ROUND_ROBIN {
+        return 0;
+    }
+    second_run(jobs, settings, index, finish_by_search).bound()
+}
+
+/// "The lesser of the two is the bound, one that is 0 giving way to the other." Each of the two is
+/// a whole bound, the largest response of its own run.
+pub fn lesser_bound(first: u16, second: u16) -> u16 {
+    match (first, second) {
+        (0, other) | (other, 0) => other,
+        _ => first.min(second),
+    }
+}
+
+/// Which bound a search for a plan goes by.
+#[derive(Clone, Copy, Debug, PartialEq, Eq)]
+pub enum BoundRule {
+    /// The first bound alone.
+    First,
+    /// The lesser of the two, which is the bound.
+    Lesser,
+}
+
+/// The bound of a job by a rule.
+pub fn bound_by(rule: BoundRule, jobs: &[Job], settings: &[Setting], index: usize) -> u16 {
+    let first = first_bound(jobs, settings, index);
+    match rule {
+        BoundRule::First => first,
+        BoundRule::Lesser => lesser_bound(first, second_bound(jobs, settings, index)),
+    }
 }
 
 /// The bound of a job. A job not placed has bound 0.
 pub fn bound(jobs: &[Job], settings: &[Setting], index: usize) -> u16 {
-    if settings[index].policy == NOT_PLACED {
-        return 0;
-    }
-    run(jobs, settings, index).bound()
+    bound_by(BoundRule::Lesser, jobs, settings, index)
 }
 
 /// "Bound, 2 bytes, one per job in job order; 0 means over the deadline, or not placed."

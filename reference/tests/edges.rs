@@ -2,7 +2,7 @@
 
 mod common;
 
-use common::{job_block, marked, planned, Times};
+use common::{first_bounds, job_block, marked, planned, Times};
 use reference::response_time::round_robin_demand;
 use reference::{bounds, edit, plan, read_jobs, same_bytes, Refusal};
 
@@ -95,7 +95,9 @@ fn trap_the_largest_quantum_for_everyone() {
     assert_eq!(round_robin_demand(6, 4, 4), 14);
     let longer = [(6, 22, 22), (5, 22, 22)];
     let settings = [[1, 1, 2, 4], [2, 1, 2, 4]];
-    assert_eq!(marked(&longer, 1, 4, &settings), (true, vec![14, 13]));
+    assert_eq!(first_bounds(&longer, &[4, 4]), vec![14, 13]);
+    assert_eq!(marked(&longer, 1, 4, &settings), (true, vec![11, 11]));
+    assert_eq!(first_bounds(&K2, &[4, 4]), vec![0, 13]);
     assert_eq!(marked(&K2, 1, 4, &settings), (false, vec![0, 13]));
 }
 

@@ -1,23 +1,34 @@
 //! What the stored cases must hold, and what must hold of every case.
 
-use reference::configuration::{Setting, SETTING_BYTES};
+mod common;
+
+use common::{bound_instance_by_instance, bound_numbers};
+use reference::configuration::{
+    put_settings, QuantumRange, Setting, NOT_PLACED, ROUND_ROBIN, SETTING_BYTES,
+};
 use reference::frames::{
     answer, Frame, Input, BOUNDS, EDIT, KEY, MARK, PLAN, SAME_BYTES, WRITE_JOBS,
 };
-use reference::generation::long_deadlines::has_long_deadline;
+use reference::generation::long_deadlines::{finish_by_recurrence, has_long_deadline};
 use reference::generation::present::faults_present;
+use reference::generation::situations::two_bounds;
 use reference::generation::summary::Summary;
-use reference::generation::{cases, input_of_case, FIRST_LONG_DEADLINE_CASE};
+use reference::generation::{
+    cases, input_of_case, FIRST_LIGHT_NEIGHBOUR_CASE, FIRST_LONG_DEADLINE_CASE,
+};
 use reference::jobs::Job;
+use reference::key::text_of_plan;
+use reference::planner::{plan_jobs_within, Plan};
 use reference::response_time::{
-    bound, bounds_of_settings, interference, jobs_above, layer_demand, BOUND_BYTES,
+    bound, interference, jobs_above, layer_demand, lesser_bound, neighbours, put_bounds,
+    run_of_job, BoundRule, BOUND_BYTES,
 };
 use std::sync::OnceLock;
 
 /// The stored cases.
 fn stored() -> &'static [(Frame, Frame)] {
     static CASES: OnceLock<Vec<(Frame, Frame)>> = OnceLock::new();
-    CASES.get_or_init(|| cases(1, 5400))
+    CASES.get_or_init(|| cases(1, 6300))
 }
 
 fn stored_inputs() -> Vec<(Input, &'static Frame)> {
@@ -104,6 +115,22 @@ fn minimums_of_runs() {
     assert!(plan.long_finish >= 10, "{plan:?}");
 }
 
+#[test]
+fn minimums_of_situations() {
+    let [bounds, mark, plan] = Summary::of_cases(stored()).light_neighbours.entries;
+    for counts in [bounds, mark] {
+        assert!(counts.cases >= 300, "{counts:?}");
+        assert!(counts.jobs.iter().all(|count| *count >= 60), "{counts:?}");
+        assert!(
+            counts.late_jobs.iter().all(|count| *count >= 30),
+            "{counts:?}"
+        );
+        assert!(counts.closed_apart >= 30, "{counts:?}");
+    }
+    assert!(mark.passing_by_second >= 60, "{mark:?}");
+    assert!(plan.cases >= 20, "{plan:?}");
+}
+
 /// The jobs that refusal 5 of a call is about. A table with a count above 8 has none, as its
 /// entries past the list hold any bytes.
 fn judged_jobs(input: &Input) -> Vec<Job> {
@@ -122,9 +149,11 @@ fn judged_jobs(input: &Input) -> Vec<Job> {
 }
 
 #[test]
-fn deadlines_are_above_periods_in_two_thirds_of_the_later_lists() {
+fn deadlines_are_above_periods_in_two_thirds_of_the_lists_meant_for_it() {
     let (mut lists, mut with_long_deadline) = (0, 0);
-    for (case, (input, _)) in stored_inputs().iter().enumerate() {
+    let inputs = stored_inputs();
+    let before = inputs[..FIRST_LIGHT_NEIGHBOUR_CASE].iter();
+    for (case, (input, _)) in before.enumerate() {
         let jobs = judged_jobs(input);
         if case < FIRST_LONG_DEADLINE_CASE {
             let is_one_above = |job: &Job| job.deadline - job.period == 1;
@@ -234,38 +263,145 @@ fn the_planner_and_the_bounds_entry_agree() {
     assert!(compared >= 500, "{compared} plans compared");
 }
 
-/// The least time to the deadline, which is up to the period, that equals the demand when sums are
-/// kept in two bytes.
-fn bound_in_two_bytes(jobs: &[Job], settings: &[Setting], index: usize) -> u16 {
-    let layer_demand = layer_demand(settings, index, u64::from(jobs[index].cost)) as u16;
-    let above = jobs_above(jobs, settings, index);
+#[test]
+fn the_count_of_sets_considered_is_below_two_to_the_power_of_the_jobs() {
+    for (case, (input, output)) in stored_inputs().iter().enumerate() {
+        if input.entry == PLAN && output[0] == 0 {
+            let considered = u16::from_be_bytes([output[2], output[3]]);
+            assert!(considered < 1 << input.job_slice().len(), "case {case}");
+        }
+    }
+}
+
+/// The planner's answer by the first bound alone.
+fn plan_by_first_bound(jobs: &[Job], lowest: u8, highest: u8) -> Plan {
+    let range = QuantumRange { lowest, highest };
+    plan_jobs_within(jobs, range, BoundRule::First, u64::MAX)
+        .expect("no search tries that many lists")
+}
+
+#[test]
+fn plans_and_keys_are_the_same_by_the_first_bound_alone() {
+    let mut compared = 0;
+    for (case, (input, output)) in stored_inputs().iter().enumerate() {
+        if !matches!(input.entry, PLAN | KEY) || !faults_present(input).is_empty() {
+            continue;
+        }
+        let jobs = input.job_slice();
+        let mut expected = **output;
+        if input.entry == KEY {
+            let text = text_of_plan(&plan_by_first_bound(&jobs, 1, 4));
+            expected[1] = text.len() as u8;
+            expected[4..4 + text.len()].copy_from_slice(text.as_bytes());
+        } else {
+            let plan = plan_by_first_bound(&jobs, input.low, input.high);
+            expected[1] = plan.placed;
+            expected[2..4].copy_from_slice(&plan.considered.to_be_bytes());
+            put_settings(&plan.settings, &mut expected[4..]);
+            put_bounds(&plan.bounds, &mut expected[84..]);
+        }
+        assert_eq!(expected, **output, "case {case}");
+        compared += 1;
+    }
+    assert!(compared >= 1_000, "{compared} answers compared");
+}
+
+/// The least time to a deadline that equals the demand when sums are kept in two bytes.
+fn least_time_in_two_bytes(layer_demand: u64, above: &[Job], deadline: u16) -> u16 {
     let demand = |time: u16| {
-        above.iter().fold(layer_demand, |sum, job| {
+        above.iter().fold(layer_demand as u16, |sum, job| {
             sum.wrapping_add(interference(job, u64::from(time)) as u16)
         })
     };
-    (1..=jobs[index].deadline)
+    (1..=deadline)
         .find(|time| demand(*time) == *time)
         .unwrap_or(0)
 }
 
-#[test]
-fn some_bounds_differ_if_sums_are_kept_in_two_bytes() {
+/// The bound of a placed job, whose deadline is up to its period, when sums are kept in two bytes.
+fn bound_in_two_bytes(jobs: &[Job], settings: &[Setting], index: usize) -> u16 {
+    let job = &jobs[index];
+    let own_work = u64::from(job.cost);
+    let mut above = jobs_above(jobs, settings, index);
+    let layer_demand = layer_demand(settings, index, own_work);
+    let first = least_time_in_two_bytes(layer_demand, &above, job.deadline);
+    if settings[index].policy != ROUND_ROBIN {
+        return first;
+    }
+    above.extend(neighbours(jobs, settings, index));
+    lesser_bound(
+        first,
+        least_time_in_two_bytes(own_work, &above, job.deadline),
+    )
+}
+
+/// In how many of the stored cases that give bounds for a configuration some job that is chosen has
+/// another bound than by a way that is not the right one.
+fn cases_that_tell(
+    is_chosen: fn(&Job, &Setting) -> bool,
+    bound_otherwise: fn(&[Job], &[Setting], usize) -> u16,
+) -> usize {
     let mut differing = 0;
     for (input, output) in stored_inputs() {
         if output[0] == 0 && matches!(input.entry, BOUNDS | MARK) {
             let (jobs, settings) = (input.job_slice(), input.setting_table());
             let settings = &settings[..jobs.len()];
-            let bounds = bounds_of_settings(&jobs, settings);
+            let bounds = bound_numbers(&output[4..4 + BOUND_BYTES * jobs.len()]);
             let differs = |index: usize| {
-                settings[index].level != 0
-                    && jobs[index].deadline <= jobs[index].period
-                    && bound_in_two_bytes(&jobs, settings, index) != bounds[index]
+                is_chosen(&jobs[index], &settings[index])
+                    && bound_otherwise(&jobs, settings, index) != bounds[index]
             };
             differing += usize::from((0..jobs.len()).any(differs));
         }
     }
+    differing
+}
+
+#[test]
+fn some_bounds_differ_if_sums_are_kept_in_two_bytes() {
+    let is_chosen =
+        |job: &Job, setting: &Setting| setting.policy != NOT_PLACED && job.deadline <= job.period;
+    let differing = cases_that_tell(is_chosen, bound_in_two_bytes);
     assert!(differing >= 30, "{differing} cases");
+}
+
+/// The second bound of a policy 2 job if the cycles of its layer's others counted in it.
+fn second_bound_with_cycles(jobs: &[Job], settings: &[Setting], index: usize) -> u16 {
+    let mut above = jobs_above(jobs, settings, index);
+    above.extend(neighbours(jobs, settings, index));
+    let run = run_of_job(
+        &jobs[index],
+        |own_work| layer_demand(settings, index, own_work),
+        |demand, earliest, latest| finish_by_recurrence(demand, &above, earliest, latest),
+    );
+    run.bound()
+}
+
+#[test]
+fn some_bounds_differ_by_other_readings_of_the_two_bounds() {
+    type Reading = fn(&[Job], &[Setting], usize) -> u16;
+    let readings: [(&str, Reading); 5] = [
+        ("the first alone", |jobs, settings, index| {
+            two_bounds(jobs, settings, index)[0]
+        }),
+        ("the second alone", |jobs, settings, index| {
+            two_bounds(jobs, settings, index)[1]
+        }),
+        ("a bound of 0 as the lesser", |jobs, settings, index| {
+            let [first, second] = two_bounds(jobs, settings, index);
+            first.min(second)
+        }),
+        ("cycles in the second too", |jobs, settings, index| {
+            let [first, _] = two_bounds(jobs, settings, index);
+            lesser_bound(first, second_bound_with_cycles(jobs, settings, index))
+        }),
+        ("instance by instance", bound_instance_by_instance),
+    ];
+    for (name, reading) in readings {
+        let is_chosen = |_: &Job, setting: &Setting| setting.policy == ROUND_ROBIN;
+        let differing = cases_that_tell(is_chosen, reading);
+        assert!(differing >= 30, "{name}: {differing} cases");
+    }
 }
 
 #[test]

@@ -1,14 +1,23 @@
 //! The planner against a search that judges every set by the bounds of whole configurations, with
 //! every list of quanta tried and nothing kept from one to the next.
 
+mod common;
+
+use common::near_full_list;
 use reference::configuration::{judge_range, not_placed, QuantumRange, Setting};
-use reference::frames::{Input, PLAN};
-use reference::generation::input_of_case;
+use reference::frames::PLAN;
 use reference::generation::long_deadlines::has_long_deadline;
+use reference::generation::random::Random;
+use reference::generation::{
+    entry_of_case, input_of_case, FIRST_LIGHT_NEIGHBOUR_CASE, FIRST_LONG_DEADLINE_CASE,
+};
 use reference::jobs::{jobs_of_block, Job};
 use reference::planner::{members_of_set, place, plan_jobs, subsets_in_order, whole_set, Plan};
-use reference::quanta::next_quanta_list;
-use reference::response_time::{bound, bounds_of_settings, INSTANCES};
+use reference::quanta::{next_quanta_list, Layer};
+use reference::response_time::{
+    bound, bounds_of_settings, first_bound, jobs_above, second_bound, INSTANCES,
+};
+use std::ops::Range;
 
 /// The settings with the set taken at the level, if some quanta serve each of its jobs.
 fn settings_with_set(
@@ -78,11 +87,12 @@ fn last_time(job: &Job) -> u64 {
     }
 }
 
-/// The jobs and the range of a planner case that the literal search affords.
-fn affordable_case(input: &Input) -> Option<(Vec<Job>, QuantumRange)> {
-    if input.entry != PLAN {
+/// The jobs and the range of a case, if it is one of the planner's that the literal search affords.
+fn affordable_case(case: usize) -> Option<(Vec<Job>, QuantumRange)> {
+    if entry_of_case(case).0 != PLAN {
         return None;
     }
+    let input = input_of_case(7, case);
     let jobs = jobs_of_block(input.block_a()).ok()?;
     let range = judge_range(input.low, input.high).ok()?;
     let lists_of_one_job = u64::from(range.highest - range.lowest) + 2;
@@ -93,27 +103,89 @@ fn affordable_case(input: &Input) -> Option<(Vec<Job>, QuantumRange)> {
     (steps < 40_000_000).then_some((jobs, range))
 }
 
-#[test]
-fn the_planner_agrees_with_the_literal_search() {
+/// Compares the planner with the literal search for the cases in a range of numbers, and answers
+/// how many lists were compared and how many of them have a deadline above its period.
+fn compare(cases: Range<usize>) -> (usize, usize) {
     let (mut compared, mut with_long_deadline) = (0, 0);
-    for case in 0..5400 {
-        if let Some((jobs, range)) = affordable_case(&input_of_case(7, case)) {
+    for case in cases {
+        if let Some((jobs, range)) = affordable_case(case) {
             assert_eq!(plan_jobs(&jobs, range), literal_plan(&jobs, range));
             compared += 1;
             with_long_deadline += usize::from(has_long_deadline(&jobs));
         }
     }
+    (compared, with_long_deadline)
+}
+
+#[test]
+fn the_planner_agrees_with_the_literal_search() {
+    let (compared, _) = compare(0..FIRST_LONG_DEADLINE_CASE);
     assert!(compared >= 300, "{compared} lists compared");
+}
+
+#[test]
+fn the_planner_agrees_with_the_literal_search_on_long_deadlines() {
+    let (_, with_long_deadline) = compare(FIRST_LONG_DEADLINE_CASE..FIRST_LIGHT_NEIGHBOUR_CASE);
     assert!(with_long_deadline >= 100, "{with_long_deadline} lists");
 }
 
 #[test]
-fn the_count_of_sets_considered_is_below_two_to_the_power_of_the_jobs() {
-    for case in (0..1800).chain(3600..4500) {
-        if let Some((jobs, range)) = affordable_case(&input_of_case(8, case)) {
-            assert!(plan_jobs(&jobs, range).considered < 1 << jobs.len());
+fn the_planner_agrees_with_the_literal_search_on_light_neighbours() {
+    let (compared, _) = compare(FIRST_LIGHT_NEIGHBOUR_CASE..FIRST_LIGHT_NEIGHBOUR_CASE + 900);
+    assert!(compared >= 30, "{compared} lists compared");
+}
+
+/// The quanta that a layer's search finds for the first two jobs of a list or more, with the rest
+/// above.
+fn quanta_of_layer(jobs: &[Job], count: usize, range: QuantumRange) -> Option<Vec<u8>> {
+    let mut settings: Vec<Setting> = jobs.iter().map(not_placed).collect();
+    let members: Vec<usize> = (0..count).collect();
+    place(&mut settings, &members, 1, &vec![range.lowest; count]);
+    let has_second_bound = members
+        .iter()
+        .map(|member| second_bound(jobs, &settings, *member) != 0)
+        .collect();
+    let above = jobs_above(jobs, &settings, 0);
+    let mut layer = Layer::new(jobs[..count].to_vec(), above, has_second_bound);
+    let mut lists_left = u64::MAX;
+    layer
+        .smallest_quanta(range, &mut lists_left)
+        .expect("no search tries that many lists")
+}
+
+/// The planner tries sets of two or more only where all their second bounds are 0. Here a layer is
+/// searched also where some are not.
+#[test]
+fn a_layer_takes_the_first_list_that_serves_by_either_bound() {
+    let (mut by_first, mut by_second, mut by_none) = (0, 0, 0);
+    for case in 0..3_000 {
+        let mut random = Random::of_case(16, case);
+        let jobs = near_full_list(&mut random);
+        let count = random.between(2, jobs.len());
+        let lowest = random.byte(1, 4);
+        let range = QuantumRange {
+            lowest,
+            highest: random.byte(lowest, 6),
+        };
+        let none_placed: Vec<Setting> = jobs.iter().map(not_placed).collect();
+        let taken = settings_with_set(&jobs, range, &none_placed, (1 << count) - 1, 1);
+        let quanta = taken.as_ref().map(|settings| {
+            let members = settings[..count].iter();
+            members.map(|setting| setting.quantum).collect()
+        });
+        assert_eq!(quanta_of_layer(&jobs, count, range), quanta, "{jobs:?}");
+        let Some(settings) = taken else {
+            by_none += 1;
+            continue;
+        };
+        if (0..count).all(|member| first_bound(&jobs, &settings, member) != 0) {
+            by_first += 1;
+        } else {
+            by_second += 1;
         }
     }
+    let counts = [by_first, by_second, by_none];
+    assert!(counts.iter().all(|count| *count >= 200), "{counts:?}");
 }
 
 #[test]

@@ -1,14 +1,17 @@
-//! Deadlines above periods: runs of instances worked out by hand, and the bound against searches
-//! written from the two texts about it.
+//! Deadlines above periods: first runs of instances worked out by hand, and the first bound against
+//! searches written from the two texts about it.
 
 mod common;
 
-use common::{jobs, marked, planned, Planned, SettingNumbers, Times};
-use reference::configuration::{setting_of_record, Setting, NOT_PLACED, ROUND_ROBIN};
-use reference::generation::long_deadlines::run_by_recurrence;
+use common::{
+    any_list, bound_of_instances, demand, first_bounds, jobs, marked, planned, Planned,
+    SettingNumbers, Times,
+};
+use reference::configuration::{setting_of_record, Setting, NOT_PLACED};
+use reference::generation::long_deadlines::finish_by_recurrence;
 use reference::generation::random::Random;
 use reference::jobs::Job;
-use reference::response_time::{bound, run, End};
+use reference::response_time::{finish_by_search, first_bound, first_run, second_run, End};
 use reference::{bounds, key};
 
 /// Two jobs alone on their levels, the first above the second.
@@ -22,7 +25,7 @@ fn bound_below(above: Times, below: Times) -> u16 {
 /// The end and the last instance of the second job's run, alone on its level below the first.
 fn run_below(above: Times, below: Times) -> (End, u64) {
     let settings = ONE_BELOW_THE_OTHER.map(|numbers| setting_of_record(&numbers));
-    let run = run(&jobs(&[above, below]), &settings, 1);
+    let run = first_run(&jobs(&[above, below]), &settings, 1, finish_by_search);
     (run.end, run.last_instance)
 }
 
@@ -101,26 +104,23 @@ fn a_response_that_exceeds_the_deadline_in_the_middle_of_the_run() {
 fn the_cycles_are_those_of_the_whole_own_work() {
     // C = 3 and quantum 2, the other quantum 2: 3 + 2·2 = 7 and then 6 + 3·2 = 12, by 2·6. Cycles
     // of each C for itself would give 14.
-    let shared = [[1, 1, 2, 2], [2, 1, 2, 2]];
-    let times = |deadline| [(3, 6, deadline), (4, 100, 100)];
-    assert_eq!(marked(&times(7), 2, 4, &shared), (true, vec![7, 8]));
-    assert_eq!(marked(&times(60_000), 2, 4, &shared), (true, vec![7, 8]));
-    assert_eq!(marked(&times(6), 2, 4, &shared), (false, vec![0, 8]));
+    let first_bounds = |times| first_bounds(&[times, (4, 100, 100)], &[2, 2]);
+    assert_eq!(first_bounds((3, 6, 7)), vec![7, 8]);
+    assert_eq!(first_bounds((3, 6, 60_000)), vec![7, 8]);
+    assert_eq!(first_bounds((3, 6, 6)), vec![0, 8]);
     // A period of 5 is never enough: 7, 12 - 5, 19 - 10 and so on.
-    let short = [(3, 5, 8), (4, 100, 100)];
-    assert_eq!(marked(&short, 2, 4, &shared), (false, vec![0, 8]));
+    assert_eq!(first_bounds((3, 5, 8)), vec![0, 8]);
 }
 
 #[test]
 fn a_run_that_closes_at_instance_63_after_three_million_ticks() {
     // C is 400 quanta of 64 and one tick, and the other quantum is 64. The own work of instance j
     // takes 400·(j+1) + 1 cycles, so its response is 51,265 - j, and 51,202 at instance 63.
-    let shared = [[1, 1, 2, 64], [2, 1, 2, 64]];
-    let mark = |times| marked(&[times, (1, 60_000, 60_000)], 64, 64, &shared);
-    assert_eq!(mark((25_601, 51_202, 51_265)), (true, vec![51_265, 65]));
-    assert_eq!(mark((25_601, 51_202, 51_264)), (false, vec![0, 65]));
+    let first_bounds = |times| first_bounds(&[times, (1, 60_000, 60_000)], &[64, 64]);
+    assert_eq!(first_bounds((25_601, 51_202, 51_265)), vec![51_265, 65]);
+    assert_eq!(first_bounds((25_601, 51_202, 51_264)), vec![0, 65]);
     // With a period one tick shorter every response is 51,265, and no instance closes the run.
-    assert_eq!(mark((25_601, 51_201, 60_000)), (false, vec![0, 65]));
+    assert_eq!(first_bounds((25_601, 51_201, 60_000)), vec![0, 65]);
 }
 
 #[test]
@@ -176,22 +176,6 @@ fn the_planner_shares_a_level_where_a_later_instance_is_over_the_deadline() {
     assert_eq!(key(&common::job_block(&times)), text);
 }
 
-/// The demand at a time, with own work in place of the job's C.
-fn demand(jobs: &[Job], settings: &[Setting], index: usize, own_work: u64, time: u64) -> u64 {
-    let own = &settings[index];
-    let mut demand = own_work;
-    for (other, (job, setting)) in jobs.iter().zip(settings).enumerate() {
-        let (period, cost) = (u64::from(job.period), u64::from(job.cost));
-        if setting.level < own.level {
-            demand += time.div_ceil(period) * cost;
-        } else if setting.level == own.level && other != index {
-            let quantum = u64::from(own.quantum);
-            demand += own_work.div_ceil(quantum) * u64::from(setting.quantum);
-        }
-    }
-    demand
-}
-
 /// "The bound is the least t from 1 to D whose demand equals t. If there is none, the bound is 0."
 fn bound_of_one_instance(jobs: &[Job], settings: &[Setting], index: usize) -> u16 {
     let cost = u64::from(jobs[index].cost);
@@ -203,74 +187,7 @@ fn bound_of_one_instance(jobs: &[Job], settings: &[Setting], index: usize) -> u1
         .unwrap_or(0)
 }
 
-/// The bound by the text about instances, every time being tried from 1 on for every instance. The
-/// last time tried is above j·T + D for the short times of the lists that it is given.
-fn bound_of_instances(jobs: &[Job], settings: &[Setting], index: usize) -> u16 {
-    let job = &jobs[index];
-    let (period, deadline) = (u64::from(job.period), u64::from(job.deadline));
-    let mut largest = 0;
-    for instance in 0..64 {
-        let own_work = (instance + 1) * u64::from(job.cost);
-        let equals = |time: &u64| demand(jobs, settings, index, own_work, *time) == *time;
-        let Some(finish) = (1..4_000).find(equals) else {
-            return 0;
-        };
-        let response = finish - instance * period;
-        if response > deadline {
-            return 0;
-        }
-        largest = largest.max(response);
-        if finish <= (instance + 1) * period {
-            return largest as u16;
-        }
-    }
-    0
-}
-
-/// Any settings for so many jobs: level 0 is not placed, and jobs of one level share it.
-fn any_settings(random: &mut Random, count: usize) -> Vec<Setting> {
-    let levels: Vec<u8> = (0..count).map(|_| random.byte(0, count as u8)).collect();
-    let mut settings = Vec::new();
-    for level in &levels {
-        let on_level = levels.iter().filter(|other| *other == level).count();
-        let policy = if *level == 0 {
-            NOT_PLACED
-        } else {
-            on_level.min(2) as u8
-        };
-        let quantum = if policy == ROUND_ROBIN {
-            random.byte(1, 8)
-        } else {
-            0
-        };
-        settings.push(Setting {
-            id: 0,
-            level: *level,
-            policy,
-            quantum,
-        });
-    }
-    settings
-}
-
-/// A list with its settings; `deadline` chooses a job's deadline from its C and T.
-fn any_list(
-    random: &mut Random,
-    longest: u16,
-    deadline: fn(&mut Random, u16, u16) -> u16,
-) -> (Vec<Job>, Vec<Setting>) {
-    let count = random.between(1, 8);
-    let mut list = Vec::new();
-    for _ in 0..count {
-        let period = random.ticks(1, longest);
-        let cost = random.ticks(1, (period / count as u16).max(1));
-        let deadline = deadline(random, cost, period);
-        list.push((cost, period, deadline));
-    }
-    (jobs(&list), any_settings(random, count))
-}
-
-/// How many bounds are 0, up to the period, and above it.
+/// How many first bounds are 0, up to the period, and above it.
 #[derive(Debug, Default)]
 struct BoundCounts {
     zero: usize,
@@ -279,7 +196,7 @@ struct BoundCounts {
 }
 
 impl BoundCounts {
-    /// Compares two answers for every placed job of a list and counts the bounds.
+    /// Compares two first bounds for every placed job of a list and counts them.
     fn compare(
         &mut self,
         jobs: &[Job],
@@ -288,7 +205,7 @@ impl BoundCounts {
     ) {
         let is_placed = |index: &usize| settings[*index].policy != NOT_PLACED;
         for index in (0..jobs.len()).filter(is_placed) {
-            let found = bound(jobs, settings, index);
+            let found = first_bound(jobs, settings, index);
             let expected = other(jobs, settings, index);
             assert_eq!(found, expected, "{jobs:?} {settings:?} {index}");
             *match found {
@@ -301,7 +218,7 @@ impl BoundCounts {
 }
 
 #[test]
-fn lists_with_deadlines_up_to_periods_keep_their_bounds() {
+fn lists_with_deadlines_up_to_periods_have_first_bounds_of_one_instance() {
     let mut counts = BoundCounts::default();
     for case in 0..6_000 {
         let mut random = Random::of_case(11, case);
@@ -318,7 +235,7 @@ fn lists_with_deadlines_up_to_periods_keep_their_bounds() {
 }
 
 #[test]
-fn bounds_agree_with_a_search_of_every_time_for_every_instance() {
+fn first_bounds_agree_with_a_search_of_every_time_for_every_instance() {
     let mut counts = BoundCounts::default();
     for case in 0..6_000 {
         let mut random = Random::of_case(12, case);
@@ -343,10 +260,12 @@ fn runs_by_the_recurrence_are_the_runs_by_the_search() {
         });
         for index in 0..jobs.len() {
             if settings[index].policy != NOT_PLACED {
-                assert_eq!(
-                    run_by_recurrence(&jobs, &settings, index),
-                    run(&jobs, &settings, index)
-                );
+                for run_of_job in [first_run, second_run] {
+                    assert_eq!(
+                        run_of_job(&jobs, &settings, index, finish_by_recurrence),
+                        run_of_job(&jobs, &settings, index, finish_by_search)
+                    );
+                }
             }
         }
     }

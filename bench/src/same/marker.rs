@@ -48,7 +48,7 @@ fn bound_of(
 }
 
 fn bounds_of(jobs: &Jobs, settings: &Settings) -> Bounds {
-    let workload = Workload::new(jobs.table, Shortcuts);
+    let workload = Workload::plain(jobs.table, Shortcuts);
     let mut bounds = [0; MOST_JOBS];
     for (place, bound) in bounds[..jobs.count].iter_mut().enumerate() {
         *bound = bound_of(&workload, settings, jobs.count, place);

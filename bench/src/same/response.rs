@@ -69,23 +69,80 @@ impl Iteration for Shortcuts {
 pub struct Workload<I> {
     jobs: [Job; MOST_JOBS],
     shares: [u32; MOST_JOBS],
+    /// Jobs of which none is served alone below the others: such a job needs no second bound where
+    /// the others are above it or beside it.
+    blocked: u8,
     iteration: I,
 }
 
 impl<I: Iteration> Workload<I> {
-    pub fn new(jobs: [Job; MOST_JOBS], iteration: I) -> Workload<I> {
+    /// No job is known to be blocked.
+    pub fn plain(jobs: [Job; MOST_JOBS], iteration: I) -> Workload<I> {
         Workload {
             jobs,
             shares: jobs.map(|job| utilisation(&job)),
+            blocked: 0,
             iteration,
         }
     }
 
-    /// The bound of the job at a place, in a layer with a set above.
+    /// With the jobs that are blocked, for callers that ask for the bounds of many sets.
+    pub fn new(jobs: [Job; MOST_JOBS], iteration: I) -> Workload<I> {
+        let mut workload = Workload::plain(jobs, iteration);
+        workload.blocked = workload.blocked_jobs();
+        workload
+    }
+
+    /// The jobs that are left when no more are dropped.
+    fn blocked_jobs(&self) -> u8 {
+        let mut set = u8::MAX;
+        loop {
+            let kept = self.drop_served(set);
+            if kept == set {
+                return set;
+            }
+            set = kept;
+        }
+    }
+
+    /// The set without the jobs that have no cost or are served alone below the others of it.
+    fn drop_served(&self, set: u8) -> u8 {
+        let mut kept = set;
+        for place in (0..MOST_JOBS).rev() {
+            if contains(kept, place) && self.is_dropped(kept, place) {
+                kept &= !(1 << place);
+            }
+        }
+        kept
+    }
+
+    fn is_dropped(&self, set: u8, place: usize) -> bool {
+        let own = 1 << place;
+        self.jobs[place].cost == 0 || self.bound(&[0; MOST_JOBS], own, set & !own, place) != 0
+    }
+
+    /// The bound of the job at a place, in a layer with a set above: the lesser of its two bounds.
+    /// The second is the bound of the job alone with its neighbours above too.
     pub fn bound(&self, quanta: &Quanta, layer: u8, above: u8, place: usize) -> u16 {
-        let job = &self.jobs[place];
         let quantum = u32::from(quanta[place]);
         let others = other_quanta(quanta, layer, place);
+        let first = self.run_bound(above, &self.jobs[place], quantum, others);
+        let alone = 1 << place;
+        let neighbours = layer & !alone;
+        let all = above | neighbours;
+        if neighbours == 0 || self.is_blocked(place, all) {
+            return first;
+        }
+        lesser(first, self.bound(quanta, alone, all, place))
+    }
+
+    /// Whether a job is one of the blocked ones and the others of them lie within a set.
+    fn is_blocked(&self, place: usize, set: u8) -> bool {
+        contains(self.blocked, place) && self.blocked & !(1 << place) & !set == 0
+    }
+
+    /// One of the two bounds: the largest response beside a sum of other quanta and below a set.
+    fn run_bound(&self, above: u8, job: &Job, quantum: u32, others: u32) -> u16 {
         let left = self.iteration.left(|| self.free(above));
         if self.iteration.runs_on(job, quantum, others, left) {
             return 0;
@@ -193,6 +250,15 @@ fn utilisation(job: &Job) -> u32 {
         return 0;
     }
     (u64::from(job.cost) * WHOLE / u64::from(job.period)) as u32
+}
+
+/// The lesser of two bounds, one that is 0 giving way to the other.
+fn lesser(first: u16, second: u16) -> u16 {
+    match (first, second) {
+        (0, _) => second,
+        (_, 0) => first,
+        _ => first.min(second),
+    }
 }
 
 /// The own demand of a job for some work of it: the work, and the quanta of the others once for each

@@ -80,11 +80,11 @@ fn first_decides(blocked: u8, layer: u8, above: u8, job: usize) -> bool
 fn lesser(first: u16, second: u16) -> u16
     ensures { λ r. ⌜ r ≡ lesser first second ⌝ }
 {
-    if first == 0 {
-        return second;
-    }
     if second == 0 {
         return first;
+    }
+    if first == 0 {
+        return second;
     }
     if second < first {
         return second;
@@ -140,6 +140,7 @@ impl Workload {
             return first;
         }
         let all = sets::join(above, sets::remove(layer, job));
-        lesser(first, self.bound(quanta, sets::single(job), all, job))
+        let alone = sets::single(job);
+        lesser(first, self.bound(quanta, alone, all, job))
     }
 }

@@ -16,7 +16,7 @@ use crate::generation::setting_faults::put_setting_faults;
 use crate::jobs::{Job, LONGEST_PERIOD, MOST_JOBS};
 use crate::key::KEY_RANGE;
 use crate::marker::is_full;
-use crate::response_time::bound;
+use crate::response_time::first_bound;
 
 /// Of ten calls of an entry, so many are accepted.
 fn accepted_of_ten(entry: u8) -> usize {
@@ -93,10 +93,10 @@ pub fn any_list(random: &mut Random, count: usize) -> Vec<Job> {
     jobs
 }
 
-/// Sets one job's deadline to its bound, or to one tick off.
+/// Sets one job's deadline to its first bound, or to one tick off.
 fn tighten(random: &mut Random, list: &mut Configured) {
     let index = random.below(list.jobs.len());
-    let bound = bound(&list.jobs, &list.settings, index);
+    let bound = first_bound(&list.jobs, &list.settings, index);
     let job = &mut list.jobs[index];
     let deadline = match random.below(3) {
         0 => bound,

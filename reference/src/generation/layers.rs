@@ -1,13 +1,13 @@
 //! Lists built layer by layer together with a configuration that passes, with deadlines at the
-//! bounds or close to them; and configurations put on a list at random.
+//! first bounds or close to them; and configurations put on a list at random.
 
 use crate::configuration::{not_placed, QuantumRange, Setting, FIFO, NOT_PLACED, ROUND_ROBIN};
 use crate::generation::lists::{give_ids, job_of_times, light, stretched, SCALES};
 use crate::generation::random::Random;
 use crate::jobs::{Job, LONGEST_PERIOD};
-use crate::response_time::bound;
+use crate::response_time::first_bound;
 
-/// How often a list is built anew when some job would have no bound.
+/// How often a list is built anew when some job would have no first bound.
 const ATTEMPTS: usize = 60;
 
 /// Jobs, and a configuration of theirs.
@@ -18,7 +18,7 @@ pub struct Configured {
 }
 
 /// A rule that adds a layer of so many jobs below all others, with costs up to about ten times a
-/// scale; false if a job would have no bound.
+/// scale; false if a job would have no first bound.
 pub type LayerRule = fn(&mut Random, &mut Configured, usize, QuantumRange, u16) -> bool;
 
 /// The setting of a member of a layer of so many jobs.
@@ -57,8 +57,8 @@ pub fn add_members(
     start
 }
 
-/// Adds a layer below all others. Its deadlines are the bounds or a little more, and no deadline is
-/// above its period; false if a job would have no bound.
+/// Adds a layer below all others. Its deadlines are the first bounds or a little more, and no
+/// deadline is above its period; false if a job would have no first bound.
 pub fn add_layer(
     random: &mut Random,
     list: &mut Configured,
@@ -67,7 +67,7 @@ pub fn add_layer(
     scale: u16,
 ) -> bool {
     for index in add_members(random, list, size, range, scale)..list.jobs.len() {
-        let bound = bound(&list.jobs, &list.settings, index);
+        let bound = first_bound(&list.jobs, &list.settings, index);
         if bound == 0 {
             return false;
         }
@@ -84,7 +84,7 @@ pub fn add_layer(
     true
 }
 
-/// Adds layers until the list has so many jobs; none if a job would have no bound.
+/// Adds layers until the list has so many jobs; none if a job would have no first bound.
 fn add_layers(
     random: &mut Random,
     mut list: Configured,

@@ -48,7 +48,7 @@ fn refusals_in_turn(entry: u8) -> &'static [u8] {
     }
 }
 
-/// Sets one placed job's deadline to the largest response of its run, or to one tick off.
+/// Sets one placed job's deadline to the largest response of its first run, or to one tick off.
 fn tighten(random: &mut Random, list: &mut Configured) {
     let index = random.below(list.jobs.len());
     if list.settings[index].policy == NOT_PLACED {

@@ -7,7 +7,7 @@ use crate::generation::lists::stretched;
 use crate::generation::random::Random;
 use crate::jobs::{Job, LONGEST_DEADLINE, LONGEST_PERIOD};
 use crate::response_time::{
-    jobs_above, layer_demand, run_of_job, total_interference, End, Run, INSTANCES,
+    first_run, jobs_above, layer_demand, second_run, total_interference, End, Run, INSTANCES,
 };
 
 /// Whether a list has a deadline above its period.
@@ -51,8 +51,9 @@ pub fn with_long_deadlines(random: &mut Random, mut jobs: Vec<Job>) -> Vec<Job> 
 
 /// The least time from an earliest to a latest one that equals a layer's demand plus the
 /// interference, found by the usual recurrence: the demand at a time is the next time, until both
-/// are the same. No time below the earliest equals it.
-fn finish_by_recurrence(
+/// are the same. No time below the earliest equals it. It serves to draw and to count cases;
+/// answers come from the search that tries every time.
+pub fn finish_by_recurrence(
     layer_demand: u64,
     above: &[Job],
     earliest: u64,
@@ -69,18 +70,20 @@ fn finish_by_recurrence(
     None
 }
 
-/// The run of a placed job's instances with finishes by the recurrence. It serves to draw and to
-/// count cases; answers come from the search that tries every time.
-pub fn run_by_recurrence(jobs: &[Job], settings: &[Setting], index: usize) -> Run {
-    let above = jobs_above(jobs, settings, index);
-    run_of_job(
-        &jobs[index],
-        |own_work| layer_demand(settings, index, own_work),
-        |demand, earliest, latest| finish_by_recurrence(demand, &above, earliest, latest),
-    )
+/// One of the two runs of a placed job in a configuration.
+pub type RunOfJob = fn(&[Job], &[Setting], usize) -> Run;
+
+/// The run that settles a placed job's first bound, with finishes by the recurrence.
+pub fn first_run_by_recurrence(jobs: &[Job], settings: &[Setting], index: usize) -> Run {
+    first_run(jobs, settings, index, finish_by_recurrence)
 }
 
-/// Whether the instance after the last one that a run may reach would close the run.
+/// The run that settles a policy 2 job's second bound, with finishes by the recurrence.
+pub fn second_run_by_recurrence(jobs: &[Job], settings: &[Setting], index: usize) -> Run {
+    second_run(jobs, settings, index, finish_by_recurrence)
+}
+
+/// Whether the instance after the last one that a first run may reach would close it.
 pub fn closes_after_last(list: &Configured, index: usize) -> bool {
     let above = jobs_above(&list.jobs, &list.settings, index);
     let job = &list.jobs[index];
@@ -90,18 +93,25 @@ pub fn closes_after_last(list: &Configured, index: usize) -> bool {
     finish_by_recurrence(demand, &above, 1, latest).is_some()
 }
 
-/// Gives a job a period and the longest deadline, and answers its run.
+/// Gives a job a period and the longest deadline, and answers its first run.
 pub fn set_period(list: &mut Configured, index: usize, period: u16) -> Run {
     list.jobs[index].period = period;
     list.jobs[index].deadline = LONGEST_DEADLINE;
-    run_by_recurrence(&list.jobs, &list.settings, index)
+    first_run_by_recurrence(&list.jobs, &list.settings, index)
 }
 
-/// The least period with which a job's run closes by an instance, its deadline being the longest.
-/// With a longer period each response is smaller and no run closes later.
-pub fn least_period(list: &mut Configured, index: usize, instance: u64) -> Option<u16> {
+/// The least period with which one of a job's runs closes by an instance, its deadline being the
+/// longest. With a longer period each response is smaller and no run closes later.
+pub fn least_period(
+    list: &mut Configured,
+    index: usize,
+    instance: u64,
+    run_of_job: RunOfJob,
+) -> Option<u16> {
     let mut closes_with = |period| {
-        let run = set_period(list, index, period);
+        list.jobs[index].period = period;
+        list.jobs[index].deadline = LONGEST_DEADLINE;
+        let run = run_of_job(&list.jobs, &list.settings, index);
         run.end == End::Closed && run.last_instance <= instance
     };
     if !closes_with(LONGEST_PERIOD) {
@@ -119,9 +129,9 @@ pub fn least_period(list: &mut Configured, index: usize, instance: u64) -> Optio
     Some(most)
 }
 
-/// Adds a layer below all others. Its periods are the least with which the runs close by some
-/// instance, or longer ones; its deadlines are the bounds, a little more, or above the period.
-/// False if a run does not close.
+/// Adds a layer below all others. Its periods are the least with which the first runs close by some
+/// instance, or longer ones; its deadlines are the first bounds, a little more, or above the
+/// period. False if a first run does not close.
 pub fn add_layer_with_long_deadlines(
     random: &mut Random,
     list: &mut Configured,
@@ -131,7 +141,7 @@ pub fn add_layer_with_long_deadlines(
 ) -> bool {
     for index in add_members(random, list, size, range, scale)..list.jobs.len() {
         let instance = random.choose(&[0, 0, 1, 2, 6]);
-        let Some(least) = least_period(list, index, instance) else {
+        let Some(least) = least_period(list, index, instance, first_run_by_recurrence) else {
             return false;
         };
         // A layer's jobs with long periods would often fit alone, one below the other.

@@ -6,6 +6,8 @@ mod edits;
 mod job_calls;
 mod job_faults;
 mod layers;
+mod light_neighbour_calls;
+mod light_neighbours;
 mod lists;
 mod long_deadline_calls;
 pub mod long_deadlines;
@@ -15,6 +17,8 @@ pub mod random;
 pub mod run_counts;
 mod runs;
 mod setting_faults;
+pub mod situation_counts;
+pub mod situations;
 pub mod summary;
 
 use crate::frames::{
@@ -25,6 +29,7 @@ use byte_tests::same_bytes_call;
 use edits::{edit_call, good_times, good_times_with_long_deadline};
 use job_calls::job_call;
 use job_faults::{with_bad_times, with_one_bad_time};
+use light_neighbour_calls::light_neighbour_call;
 use long_deadline_calls::long_deadline_call;
 use random::Random;
 
@@ -32,7 +37,10 @@ use random::Random;
 /// deadlines are up to its periods, but for a few calls with one deadline one tick above.
 pub const FIRST_LONG_DEADLINE_CASE: usize = 3_600;
 
-/// How many cases of each entry are in one round of the cases below that one.
+/// From this case on most lists have layers in which a job's two bounds differ.
+pub const FIRST_LIGHT_NEIGHBOUR_CASE: usize = 5_400;
+
+/// How many cases of each entry are in one round of the cases below those for long deadlines.
 const ROUND: [(u8, usize); 10] = [
     (READ_JOBS, 6),
     (WRITE_JOBS, 5),
@@ -46,7 +54,7 @@ const ROUND: [(u8, usize); 10] = [
     (KEY, 6),
 ];
 
-/// How many cases of each entry are in one round of the cases from that one on.
+/// How many cases of each entry are in one round of the cases for long deadlines.
 const LONG_DEADLINE_ROUND: [(u8, usize); 9] = [
     (READ_JOBS, 4),
     (WRITE_JOBS, 4),
@@ -58,6 +66,9 @@ const LONG_DEADLINE_ROUND: [(u8, usize); 9] = [
     (EDIT, 3),
     (KEY, 3),
 ];
+
+/// How many cases of each entry are in one round of the cases for light neighbours.
+const LIGHT_NEIGHBOUR_ROUND: [(u8, usize); 4] = [(BOUNDS, 26), (MARK, 22), (PLAN, 10), (KEY, 2)];
 
 /// The entry of a case in rounds, and how many cases of that entry come before it.
 fn entry_in_rounds(round: &[(u8, usize)], case: usize) -> (u8, usize) {
@@ -73,12 +84,25 @@ fn entry_in_rounds(round: &[(u8, usize)], case: usize) -> (u8, usize) {
     unreachable!("a place in a round is below the sum of its parts")
 }
 
+/// The entry of a case, and how many cases of that entry come before it among those of its kind.
+pub fn entry_of_case(case: usize) -> (u8, usize) {
+    if case >= FIRST_LIGHT_NEIGHBOUR_CASE {
+        entry_in_rounds(&LIGHT_NEIGHBOUR_ROUND, case - FIRST_LIGHT_NEIGHBOUR_CASE)
+    } else if case >= FIRST_LONG_DEADLINE_CASE {
+        entry_in_rounds(&LONG_DEADLINE_ROUND, case - FIRST_LONG_DEADLINE_CASE)
+    } else {
+        entry_in_rounds(&ROUND, case)
+    }
+}
+
 /// The input of a case, which depends on the seed and the case's number alone.
 pub fn input_of_case(seed: u64, case: usize) -> Input {
     let mut random = Random::of_case(seed, case as u64);
+    let (entry, ordinal) = entry_of_case(case);
+    if case >= FIRST_LIGHT_NEIGHBOUR_CASE {
+        return light_neighbour_call(&mut random, entry, ordinal);
+    }
     if case >= FIRST_LONG_DEADLINE_CASE {
-        let place = case - FIRST_LONG_DEADLINE_CASE;
-        let (entry, ordinal) = entry_in_rounds(&LONG_DEADLINE_ROUND, place);
         return match entry {
             EDIT => edit_call(
                 &mut random,
@@ -89,7 +113,6 @@ pub fn input_of_case(seed: u64, case: usize) -> Input {
             _ => long_deadline_call(&mut random, entry, ordinal),
         };
     }
-    let (entry, ordinal) = entry_in_rounds(&ROUND, case);
     match entry {
         SAME_BYTES => same_bytes_call(&mut random, ordinal),
         EDIT => edit_call(&mut random, ordinal, good_times, with_bad_times),

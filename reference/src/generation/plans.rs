@@ -12,6 +12,7 @@ use crate::generation::random::Random;
 use crate::generation::runs::list_with_run;
 use crate::jobs::Job;
 use crate::planner::{plan_jobs_within, Plan};
+use crate::response_time::BoundRule;
 
 /// The most lists of quanta that the planner may try for one case.
 const MOST_LISTS: u64 = 600_000;
@@ -177,7 +178,7 @@ fn fits(jobs: &[Job], plan: &Plan, wanted: Option<Outcome>, deadlines: Deadlines
 /// plan in it.
 pub fn affordable(jobs: &[Job], mut range: QuantumRange) -> (QuantumRange, Plan) {
     loop {
-        match plan_jobs_within(jobs, range, MOST_LISTS) {
+        match plan_jobs_within(jobs, range, BoundRule::Lesser, MOST_LISTS) {
             Ok(plan) => return (range, plan),
             Err(_) => range.highest = range.lowest + (range.highest - range.lowest) / 2,
         }

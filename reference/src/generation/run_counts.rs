@@ -1,22 +1,22 @@
-//! What the runs of jobs with deadlines above their periods show in accepted cases.
+//! What the first runs of jobs with deadlines above their periods show in accepted cases.
 
 use std::fmt;
 
 use crate::configuration::{setting_of_record, Setting, NOT_PLACED, ROUND_ROBIN, SETTING_BYTES};
 use crate::frames::{Frame, Input, BOUNDS, MARK, PLAN};
-use crate::generation::long_deadlines::{has_long_deadline, run_by_recurrence};
+use crate::generation::long_deadlines::{first_run_by_recurrence, has_long_deadline};
 use crate::generation::plans::shares_with_long_deadline;
 use crate::jobs::LONGEST_DEADLINE;
 use crate::response_time::{End, Run, INSTANCES};
 
 /// The entries whose accepted cases are counted, with their names.
-const ENTRIES: [(u8, &str); 3] = [(BOUNDS, "bounds"), (MARK, "mark"), (PLAN, "plan")];
+pub const ENTRIES: [(u8, &str); 3] = [(BOUNDS, "bounds"), (MARK, "mark"), (PLAN, "plan")];
 
 /// The counts of one entry's accepted cases.
 #[derive(Clone, Copy, Debug, Default)]
 pub struct RunCounts {
     /// Cases with a deadline above its period. Their jobs that are placed and have such a deadline
-    /// are those whose runs are counted below.
+    /// are those whose first runs are counted below.
     pub cases: usize,
     pub closed_at_first: usize,
     pub closed_at_second: usize,
@@ -70,7 +70,7 @@ impl RunCounts {
         self.cases_shared += usize::from(shares_with_long_deadline(&jobs, settings));
         for (index, job) in jobs.iter().enumerate() {
             if settings[index].policy != NOT_PLACED && job.deadline > job.period {
-                self.count_run(&run_by_recurrence(&jobs, settings, index));
+                self.count_run(&first_run_by_recurrence(&jobs, settings, index));
                 self.longest_deadline += usize::from(job.deadline == LONGEST_DEADLINE);
                 self.period_is_cost += usize::from(job.period == job.cost);
                 self.shared += usize::from(settings[index].policy == ROUND_ROBIN);
@@ -101,6 +101,42 @@ impl RunCounts {
     }
 }
 
+/// The place of an accepted case's entry among those counted, and the case's configuration; none if
+/// the entry is not counted. The planner's configuration is in the output.
+pub fn configuration_of_case(input: &Input, output: &Frame) -> Option<(usize, Vec<Setting>)> {
+    let place = ENTRIES
+        .iter()
+        .position(|(entry, _)| *entry == input.entry)?;
+    let block = if input.entry == PLAN {
+        &output[4..4 + SETTING_BYTES * input.job_slice().len()]
+    } else {
+        input.block_b()
+    };
+    let records = block.chunks_exact(SETTING_BYTES);
+    Some((place, records.map(setting_of_record).collect()))
+}
+
+/// Writes the counts of the entries beside each other under a title.
+pub fn write_table<const LINES: usize>(
+    formatter: &mut fmt::Formatter<'_>,
+    title: &str,
+    [bounds, mark, plan]: [[(&'static str, usize); LINES]; ENTRIES.len()],
+) -> fmt::Result {
+    write!(formatter, "{title:<36}")?;
+    for (_, name) in ENTRIES {
+        write!(formatter, "{name:>10}")?;
+    }
+    writeln!(formatter)?;
+    for (index, (name, count)) in bounds.iter().enumerate() {
+        writeln!(
+            formatter,
+            "{name:<36}{count:>10}{:>10}{:>10}",
+            mark[index].1, plan[index].1
+        )?;
+    }
+    Ok(())
+}
+
 /// The counts of the entries that answer bounds.
 #[derive(Clone, Copy, Debug, Default)]
 pub struct LongDeadlineCounts {
@@ -108,37 +144,17 @@ pub struct LongDeadlineCounts {
 }
 
 impl LongDeadlineCounts {
-    /// Counts an accepted case of any entry. The planner's configuration is in the output.
+    /// Counts an accepted case of any entry.
     pub fn count(&mut self, input: &Input, output: &Frame) {
-        let Some(place) = ENTRIES.iter().position(|(entry, _)| *entry == input.entry) else {
-            return;
-        };
-        let block = if input.entry == PLAN {
-            &output[4..4 + SETTING_BYTES * input.job_slice().len()]
-        } else {
-            input.block_b()
-        };
-        let records = block.chunks_exact(SETTING_BYTES);
-        let settings: Vec<Setting> = records.map(setting_of_record).collect();
-        self.entries[place].count(input, &settings);
+        if let Some((place, settings)) = configuration_of_case(input, output) {
+            self.entries[place].count(input, &settings);
+        }
     }
 }
 
 impl fmt::Display for LongDeadlineCounts {
     fn fmt(&self, formatter: &mut fmt::Formatter<'_>) -> fmt::Result {
-        write!(formatter, "{:<36}", "jobs placed with a D above T")?;
-        for (_, name) in ENTRIES {
-            write!(formatter, "{name:>10}")?;
-        }
-        writeln!(formatter)?;
-        let [bounds, mark, plan] = self.entries.map(|entry| entry.lines());
-        for (index, (name, count)) in bounds.iter().enumerate() {
-            writeln!(
-                formatter,
-                "{name:<36}{count:>10}{:>10}{:>10}",
-                mark[index].1, plan[index].1
-            )?;
-        }
-        Ok(())
+        let lines = self.entries.map(|entry| entry.lines());
+        write_table(formatter, "jobs placed with a D above T", lines)
     }
 }

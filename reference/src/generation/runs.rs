@@ -1,10 +1,10 @@
-//! Lists with a configuration in which the run of one job's instances is of a wanted kind.
+//! Lists with a configuration in which the first run of one job's instances is of a wanted kind.
 
 use crate::configuration::QuantumRange;
 use crate::generation::layers::{add_members, built, reorder, skip_levels, Configured};
 use crate::generation::long_deadlines::{
-    add_layer_with_long_deadlines, closes_after_last, deadline_beyond, least_period,
-    run_by_recurrence, set_period,
+    add_layer_with_long_deadlines, closes_after_last, deadline_beyond, first_run_by_recurrence,
+    least_period, set_period,
 };
 use crate::generation::random::Random;
 use crate::jobs::{LONGEST_DEADLINE, LONGEST_PERIOD};
@@ -23,7 +23,7 @@ const SCALES: [u16; 9] = [1, 5_000, 20, 1_000, 4, 100, 5_000, 400, 2_000];
 /// The last instance of a run that does not end before.
 const LAST: u64 = INSTANCES - 1;
 
-/// What the run of a job's instances is to show.
+/// What the first run of a job's instances is to show.
 #[derive(Clone, Copy, Debug, PartialEq, Eq)]
 pub enum Wanted {
     /// It closes at an instance from the first number to the second.
@@ -107,10 +107,10 @@ impl Wanted {
     }
 }
 
-/// Gives a job times with which its run is the wanted one; false if they do not.
+/// Gives a job times with which its first run is the wanted one; false if they do not.
 fn give_times(random: &mut Random, list: &mut Configured, index: usize, wanted: Wanted) -> bool {
     let instance = wanted.instance(random);
-    let Some(least) = least_period(list, index, instance) else {
+    let Some(least) = least_period(list, index, instance, first_run_by_recurrence) else {
         return false;
     };
     let cost = list.jobs[index].cost;
@@ -121,7 +121,7 @@ fn give_times(random: &mut Random, list: &mut Configured, index: usize, wanted: 
     let largest = set_period(list, index, period).largest_response as u16;
     let deadline = wanted.deadline(random, period, largest.max(1));
     list.jobs[index].deadline = deadline;
-    let run = run_by_recurrence(&list.jobs, &list.settings, index);
+    let run = first_run_by_recurrence(&list.jobs, &list.settings, index);
     let would_close = wanted != Wanted::ClosesTooLate || closes_after_last(list, index);
     deadline >= cost && would_close && wanted.is_shown_by(&run)
 }
@@ -129,7 +129,7 @@ fn give_times(random: &mut Random, list: &mut Configured, index: usize, wanted: 
 /// Adds jobs alone on levels, which take some part of the processor's time. The first of them may
 /// have a long cost and the longest period; the runs of those below it then have many instances.
 /// False if a run does not close.
-fn add_upper_jobs(
+pub fn add_upper_jobs(
     random: &mut Random,
     list: &mut Configured,
     count: usize,
@@ -186,9 +186,9 @@ fn drawn(
     Some(list)
 }
 
-/// A list of two jobs or more with a full configuration, in which the run of one job's instances is
-/// of the kind that is in turn. Long lists are seldom drawn with some of the runs, so the length
-/// falls with the attempts. If no draw gives one, it is a list built for long deadlines.
+/// A list of two jobs or more with a full configuration, in which the first run of one job's
+/// instances is of the kind that is in turn. Long lists are seldom drawn with some of the runs, so
+/// the length falls with the attempts. If no draw gives one, it is a list built for long deadlines.
 pub fn list_with_run(
     random: &mut Random,
     turn: usize,

@@ -7,6 +7,8 @@ use crate::frames::{Frame, Input, KEY, PLAN};
 use crate::generation::plans::{largest_layer, outcome, Outcome};
 use crate::generation::present::{faults_present, Fault};
 use crate::generation::run_counts::LongDeadlineCounts;
+use crate::generation::situation_counts::SharedLevelCounts;
+use crate::generation::FIRST_LIGHT_NEIGHBOUR_CASE;
 use crate::jobs::{LONGEST_PERIOD, MOST_JOBS};
 
 /// The entries' names by their numbers.
@@ -77,19 +79,23 @@ pub struct Summary {
     pub refusals: [RefusalCounts; 13],
     pub plans: PlanCounts,
     pub long_deadlines: LongDeadlineCounts,
+    /// Of the cases below the first one for light neighbours.
+    pub shared_levels: SharedLevelCounts,
+    /// Of the cases from that one on.
+    pub light_neighbours: SharedLevelCounts,
 }
 
 impl Summary {
-    /// The counts of cases.
+    /// The counts of the cases from case 0 on.
     pub fn of_cases(cases: &[(Frame, Frame)]) -> Summary {
         let mut summary = Summary::default();
-        for (input, output) in cases {
-            summary.count(&Input::from_frame(input), output);
+        for (case, (input, output)) in cases.iter().enumerate() {
+            summary.count(case, &Input::from_frame(input), output);
         }
         summary
     }
 
-    fn count(&mut self, input: &Input, output: &Frame) {
+    fn count(&mut self, case: usize, input: &Input, output: &Frame) {
         let entry = &mut self.entries[usize::from(input.entry)];
         let is_refused =
             output[0] != 0 || input.entry == KEY && output[4..].starts_with(b"refused");
@@ -104,6 +110,12 @@ impl Summary {
             self.plans.count(input, output);
         }
         self.long_deadlines.count(input, output);
+        let shared_levels = if case < FIRST_LIGHT_NEIGHBOUR_CASE {
+            &mut self.shared_levels
+        } else {
+            &mut self.light_neighbours
+        };
+        shared_levels.count(input, output);
     }
 }
 
@@ -192,7 +204,22 @@ impl fmt::Display for Summary {
         writeln!(formatter)?;
         self.plans.fmt(formatter)?;
         writeln!(formatter)?;
-        self.long_deadlines.fmt(formatter)
+        self.long_deadlines.fmt(formatter)?;
+        let first = FIRST_LIGHT_NEIGHBOUR_CASE;
+        for (counts, title) in [
+            (
+                &self.shared_levels,
+                format!("policy 2 jobs below case {first}"),
+            ),
+            (
+                &self.light_neighbours,
+                format!("policy 2 jobs from case {first} on"),
+            ),
+        ] {
+            writeln!(formatter)?;
+            counts.write(formatter, &title)?;
+        }
+        Ok(())
     }
 }
 

@@ -1,8 +1,14 @@
-//! What the tests share: blocks from plain numbers, and the planner's and the marker's answers as
-//! plain numbers.
+//! What the tests share: blocks from plain numbers, the planner's and the marker's answers as plain
+//! numbers, random lists, and the bounds by searches written from the texts about them.
 #![allow(dead_code)]
 
+use reference::configuration::{Setting, NOT_PLACED, ROUND_ROBIN};
+use reference::generation::long_deadlines::finish_by_recurrence;
+use reference::generation::random::Random;
 use reference::jobs::{record_of_job, Job};
+use reference::response_time::{
+    bound, first_bound, jobs_above, layer_demand, neighbours, run_of_job, second_bound,
+};
 
 /// A job's C, T and D.
 pub type Times = (u16, u16, u16);
@@ -76,4 +82,147 @@ pub fn marked(times: &[Times], low: u8, high: u8, settings: &[SettingNumbers]) -
     let answer = reference::mark(&block, low, high, &setting_block(settings), &mut output);
     let passes = answer.expect("the configuration is accepted");
     (passes, bound_numbers(&output))
+}
+
+/// The settings of jobs with ids 1, 2, 3 and so on that share level 1, with these quanta.
+pub fn shared_level(quanta: &[u8]) -> Vec<Setting> {
+    let mut settings = Vec::new();
+    for (index, quantum) in quanta.iter().enumerate() {
+        settings.push(Setting {
+            id: index as u8 + 1,
+            level: 1,
+            policy: ROUND_ROBIN,
+            quantum: *quantum,
+        });
+    }
+    settings
+}
+
+/// The first bounds, the second bounds and the bounds of jobs.
+pub fn all_bounds(times: &[Times], settings: &[Setting]) -> [Vec<u16>; 3] {
+    let jobs = jobs(times);
+    [first_bound, second_bound, bound].map(|bound_of_job| {
+        (0..jobs.len())
+            .map(|index| bound_of_job(&jobs, settings, index))
+            .collect()
+    })
+}
+
+/// The first bounds of jobs that share a level, with these quanta.
+pub fn first_bounds(times: &[Times], quanta: &[u8]) -> Vec<u16> {
+    let [first, _, _] = all_bounds(times, &shared_level(quanta));
+    first
+}
+
+/// The demand at a time by the first bound's text, with own work in place of the job's C.
+pub fn demand(jobs: &[Job], settings: &[Setting], index: usize, own_work: u64, time: u64) -> u64 {
+    let own = &settings[index];
+    let mut demand = own_work;
+    for (other, (job, setting)) in jobs.iter().zip(settings).enumerate() {
+        let (period, cost) = (u64::from(job.period), u64::from(job.cost));
+        if setting.level < own.level {
+            demand += time.div_ceil(period) * cost;
+        } else if setting.level == own.level && other != index {
+            let quantum = u64::from(own.quantum);
+            demand += own_work.div_ceil(quantum) * u64::from(setting.quantum);
+        }
+    }
+    demand
+}
+
+/// The first bound by the text about instances, every time being tried from 1 on for every
+/// instance. The last time tried is above j·T + D for the short times of the lists that it is
+/// given.
+pub fn bound_of_instances(jobs: &[Job], settings: &[Setting], index: usize) -> u16 {
+    let job = &jobs[index];
+    let (period, deadline) = (u64::from(job.period), u64::from(job.deadline));
+    let mut largest = 0;
+    for instance in 0..64 {
+        let own_work = (instance + 1) * u64::from(job.cost);
+        let equals = |time: &u64| demand(jobs, settings, index, own_work, *time) == *time;
+        let Some(finish) = (1..4_000).find(equals) else {
+            return 0;
+        };
+        let response = finish - instance * period;
+        if response > deadline {
+            return 0;
+        }
+        largest = largest.max(response);
+        if finish <= (instance + 1) * period {
+            return largest as u16;
+        }
+    }
+    0
+}
+
+/// The bound of a policy 2 job as it would be with the lesser of the two finishes taken instance by
+/// instance. The bound is the lesser of two whole bounds instead, so that some bounds differ.
+pub fn bound_instance_by_instance(jobs: &[Job], settings: &[Setting], index: usize) -> u16 {
+    let above = jobs_above(jobs, settings, index);
+    let above_or_beside = [above.clone(), neighbours(jobs, settings, index)].concat();
+    let lesser_finish = |own_work, earliest, latest| {
+        let demand = layer_demand(settings, index, own_work);
+        let first = finish_by_recurrence(demand, &above, earliest, latest);
+        let second = finish_by_recurrence(own_work, &above_or_beside, earliest, latest);
+        first.into_iter().chain(second).min()
+    };
+    run_of_job(&jobs[index], |own_work| own_work, lesser_finish).bound()
+}
+
+/// Any settings for so many jobs: level 0 is not placed, and jobs of one level share it.
+pub fn any_settings(random: &mut Random, count: usize) -> Vec<Setting> {
+    let levels: Vec<u8> = (0..count).map(|_| random.byte(0, count as u8)).collect();
+    let mut settings = Vec::new();
+    for level in &levels {
+        let on_level = levels.iter().filter(|other| *other == level).count();
+        let policy = if *level == 0 {
+            NOT_PLACED
+        } else {
+            on_level.min(2) as u8
+        };
+        let quantum = if policy == ROUND_ROBIN {
+            random.byte(1, 8)
+        } else {
+            0
+        };
+        settings.push(Setting {
+            id: 0,
+            level: *level,
+            policy,
+            quantum,
+        });
+    }
+    settings
+}
+
+/// A list with its settings; `deadline` chooses a job's deadline from its C and T.
+pub fn any_list(
+    random: &mut Random,
+    longest: u16,
+    deadline: fn(&mut Random, u16, u16) -> u16,
+) -> (Vec<Job>, Vec<Setting>) {
+    let count = random.between(1, 8);
+    let mut list = Vec::new();
+    for _ in 0..count {
+        let period = random.ticks(1, longest);
+        let cost = random.ticks(1, (period / count as u16).max(1));
+        let deadline = deadline(random, cost, period);
+        list.push((cost, period, deadline));
+    }
+    (jobs(&list), any_settings(random, count))
+}
+
+/// A list of two to four jobs whose costs over their periods sum to about 1, so that often no job
+/// fits below all others. Some deadlines are above periods.
+pub fn near_full_list(random: &mut Random) -> Vec<Job> {
+    let count = random.ticks(2, 4);
+    let mut times = Vec::new();
+    for _ in 0..count {
+        let period = random.ticks(4, 60);
+        let cost = period * random.ticks(1, 5) / (3 * count);
+        let cost = cost.clamp(1, period);
+        let any = random.ticks(cost, 2 * period);
+        times.push((cost, period, random.choose(&[period, period, any])));
+    }
+    jobs(&times)
 }
