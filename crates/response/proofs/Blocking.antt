@@ -19,7 +19,7 @@ use Rattle.records.specs.Limits.{mostJobs}
 use Rattle.records.specs.Jobs.{jobAt}
 use Rattle.response.specs.declared.workload.Workload.{Workload}
 use Rattle.response.specs.Demand.{neighbours, withNeighbours, only}
-use Rattle.response.specs.Search.{firstDecides, boundBy, noQuanta, drops, dropFrom, settle}
+use Rattle.response.specs.Search.{firstDecides, boundBy, noQuanta, drops, dropFrom, dropAgain}
 
 -- ---- what is left when no more jobs are dropped
 
@@ -52,26 +52,26 @@ module _ (d : ℕ → ℕ → Bool) (member : (s k : ℕ) → d s k ≡ true →
       go true ih = ih (remove s n) (rest-lt places s (single n) h)
       go false ih = ih s h
 
-  pub settle-lt : (n s : ℕ) → s < 2 ^ places → settle d n s < 2 ^ places
-  unfolding settle
-  settle-lt zero s h = omega arith
-  settle-lt (suc n) s h = go (eqb (dropFrom d mostJobs s) s) (settle-lt n (dropFrom d mostJobs s) (drop-lt mostJobs s h))
+  pub again-lt : (n s : ℕ) → s < 2 ^ places → dropAgain d n s < 2 ^ places
+  unfolding dropAgain
+  again-lt zero s h = omega arith
+  again-lt (suc n) s h = go (eqb (dropFrom d mostJobs s) s) (again-lt n (dropFrom d mostJobs s) (drop-lt mostJobs s h))
     where
-      go : (b : Bool) → settle d n (dropFrom d mostJobs s) < 2 ^ places → cond b s (settle d n (dropFrom d mostJobs s)) < 2 ^ places
+      go : (b : Bool) → dropAgain d n (dropFrom d mostJobs s) < 2 ^ places → cond b s (dropAgain d n (dropFrom d mostJobs s)) < 2 ^ places
       go true ih = h
       go false ih = ih
 
-  pub settled : (n s k : ℕ) → k < mostJobs → d (settle d n s) k ≡ false
-  unfolding settle
-  settled zero s k l = none (d 0 k) refl
+  pub none-dropped : (n s k : ℕ) → k < mostJobs → d (dropAgain d n s) k ≡ false
+  unfolding dropAgain
+  none-dropped zero s k l = none (d 0 k) refl
     where
       none : (b : Bool) → d 0 k ≡ b → b ≡ false
       none true e = absurd (false≢true (sym (has-none k) ∙ member 0 k e))
       none false e = refl
-  settled (suc n) s k l = go (eqb (dropFrom d mostJobs s) s) refl (settled n (dropFrom d mostJobs s) k l)
+  none-dropped (suc n) s k l = go (eqb (dropFrom d mostJobs s) s) refl (none-dropped n (dropFrom d mostJobs s) k l)
     where
-      go : (b : Bool) → eqb (dropFrom d mostJobs s) s ≡ b → d (settle d n (dropFrom d mostJobs s)) k ≡ false
-          → d (cond b s (settle d n (dropFrom d mostJobs s))) k ≡ false
+      go : (b : Bool) → eqb (dropFrom d mostJobs s) s ≡ b → d (dropAgain d n (dropFrom d mostJobs s)) k ≡ false
+          → d (cond b s (dropAgain d n (dropFrom d mostJobs s))) k ≡ false
       go true e ih = drop-none mostJobs s (le-refl mostJobs) (eqb-true (dropFrom d mostJobs s) s e) k l
       go false e ih = ih
 
@@ -221,14 +221,14 @@ module _ (d : ℕ → ℕ → Bool) (set : ℕ) where
   unfolding dropFrom
   drop-keep n e = ap (λ (b : Bool). dropFrom d n (cond b (remove set n) set)) e
 
-  pub settle-out : settle d 0 set ≡ 0
-  unfolding settle
-  settle-out = refl
+  pub again-out : dropAgain d 0 set ≡ 0
+  unfolding dropAgain
+  again-out = refl
 
-  pub settle-ends : (n : ℕ) → dropFrom d mostJobs set ≡ set → settle d (suc n) set ≡ set
-  unfolding settle
-  settle-ends n e = ap (λ (b : Bool). cond b set (settle d n (dropFrom d mostJobs set))) (eq-eqb (dropFrom d mostJobs set) set e)
+  pub again-ends : (n : ℕ) → dropFrom d mostJobs set ≡ set → dropAgain d (suc n) set ≡ set
+  unfolding dropAgain
+  again-ends n e = ap (λ (b : Bool). cond b set (dropAgain d n (dropFrom d mostJobs set))) (eq-eqb (dropFrom d mostJobs set) set e)
 
-  pub settle-on : (n : ℕ) → (dropFrom d mostJobs set ≡ set → ⊥) → settle d (suc n) set ≡ settle d n (dropFrom d mostJobs set)
-  unfolding settle
-  settle-on n e = ap (λ (b : Bool). cond b set (settle d n (dropFrom d mostJobs set))) (ne-eqb (dropFrom d mostJobs set) set e)
+  pub again-on : (n : ℕ) → (dropFrom d mostJobs set ≡ set → ⊥) → dropAgain d (suc n) set ≡ dropAgain d n (dropFrom d mostJobs set)
+  unfolding dropAgain
+  again-on n e = ap (λ (b : Bool). cond b set (dropAgain d n (dropFrom d mostJobs set))) (ne-eqb (dropFrom d mostJobs set) set e)

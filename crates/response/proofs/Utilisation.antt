@@ -27,7 +27,7 @@ use Rattle.sets.proofs.Members.{has-none, has-single, member-lt}
 use Rattle.records.specs.Limits.{mostJobs}
 use Rattle.response.specs.declared.workload.Workload.{Workload}
 use Rattle.response.proofs.Lesser.{lesser-second}
-use Rattle.response.proofs.Blocking.{Covered, settle-lt, settled, decided, only-decides}
+use Rattle.response.proofs.Blocking.{Covered, again-lt, none-dropped, decided, only-decides}
 
 -- Within t a job adds at least its utilisation of t.
 covers : (job : Job) (t : ℕ) → t * utilisation job ≤ work job t * whole
@@ -371,9 +371,9 @@ module _ (jobs : List Job) where
   alone-none : (k : ℕ) → has blocked k ≡ true → (0 < jobAt jobs k .cost) × (bound jobs noQuanta (has (single k)) (has (remove blocked k)) k ≡ 0) × (k < mostJobs)
   unfolding drops
   alone-none k e =
-      let l : k < mostJobs = member-lt mostJobs blocked k (settle-lt (drops (plainWorkload jobs)) dropped-in rounds (firstJobs mostJobs) few) e in
+      let l : k < mostJobs = member-lt mostJobs blocked k (again-lt (drops (plainWorkload jobs)) dropped-in rounds (firstJobs mostJobs) few) e in
       let x = boundBy (plainWorkload jobs) noQuanta (has (single k)) (has (remove blocked k)) k in
-      let kept = sym (ap (λ (b : Bool). b && (eqb (jobAt jobs k .cost) 0 || ltb 0 x)) e) ∙ settled (drops (plainWorkload jobs)) dropped-in rounds (firstJobs mostJobs) k l in
+      let kept = sym (ap (λ (b : Bool). b && (eqb (jobAt jobs k .cost) 0 || ltb 0 x)) e) ∙ none-dropped (drops (plainWorkload jobs)) dropped-in rounds (firstJobs mostJobs) k l in
       let w = neither (eqb (jobAt jobs k .cost) 0) (ltb 0 x) kept in
       (omega (arith, eqb-false (jobAt jobs k .cost) 0 (w .0)), sym (bound-plain jobs noQuanta (has (single k)) (has (remove blocked k)) k) ∙ zero-of x (w .1), l)
     where

@@ -1,5 +1,5 @@
--- How the code finds a bound: each finish by iteration, from a time that no such time is below. `bound-found` (proofs) says that this is
--- the bound. Assumes nothing.
+-- How the code finds a bound: each finish by iteration, from a time that no such time is below, and the second bound only where it is
+-- not known to be 0 or the first. `bound-found` (proofs) says that this is the bound. Assumes nothing.
 use Prim.Native.Nat.{ℕ, zero, suc, _+_, _*_, _/_, _-_, min, max}
 use mathlib.Core.Bool.{Bool, cond, not, _&&_, _||_}
 use mathlib.Core.List.{List}
@@ -138,8 +138,8 @@ abbrev pub oneBound : Workload → List ℕ → Set → Set → ℕ → ℕ
 oneBound workload quanta layer above k =
     runBound (inTable workload) above (getD quanta k 0) (otherQuanta (length (workload .jobs)) quanta layer k) (jobAt (workload .jobs) k)
 
--- The first bound of a job among n is the bound: the job has no neighbours, or it is one of the jobs that are blocked and the others of them are above it
--- or its neighbours.
+-- The first bound of a job among n is the bound: the job has no neighbours, or it is one of the jobs that are blocked and the others of
+-- them are above it or its neighbours.
 unfoldable pub firstDecides : ℕ → ℕ → Set → Set → ℕ → Bool
 firstDecides n blocked layer above k =
     every (λ i. not (neighbours layer k i)) n
@@ -173,9 +173,9 @@ dropFrom drops zero set = set
 dropFrom drops (suc n) set = dropFrom drops n (cond (drops set n) (remove set n) set)
 
 -- The same again and again until no job is dropped, n times at most; then the empty set.
-unfoldable pub settle : (ℕ → ℕ → Bool) → ℕ → ℕ → ℕ
-settle drops zero set = 0
-settle drops (suc n) set = cond (eqb (dropFrom drops mostJobs set) set) set (settle drops n (dropFrom drops mostJobs set))
+unfoldable pub dropAgain : (ℕ → ℕ → Bool) → ℕ → ℕ → ℕ
+dropAgain drops zero set = 0
+dropAgain drops (suc n) set = cond (eqb (dropFrom drops mostJobs set) set) set (dropAgain drops n (dropFrom drops mostJobs set))
 
 -- Enough rounds: each but the last drops a job.
 abbrev pub rounds : ℕ
@@ -183,7 +183,7 @@ rounds = 9
 
 -- Jobs of which none is served alone below the others.
 abbrev pub blockedOf : Workload → ℕ
-blockedOf workload = settle (drops workload) rounds (firstJobs mostJobs)
+blockedOf workload = dropAgain (drops workload) rounds (firstJobs mostJobs)
 
 -- The jobs of a table with the utilisation of each, and those that are blocked.
 abbrev pub workload : List Job → Workload
