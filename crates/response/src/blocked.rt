@@ -21,13 +21,9 @@ fn is_dropped(workload: Workload, set: u8, job: usize) -> bool
     if entry.cost == 0 {
         return true;
     }
-    0
-        < workload.bound(
-            [0u8; Job::MOST],
-            sets::single(job),
-            sets::remove(set, job),
-            job,
-        )
+    let alone = sets::single(job);
+    let others = sets::remove(set, job);
+    0 < workload.bound([0u8; Job::MOST], alone, others, job)
 }
 
 // The set without the jobs that are dropped, the last of them first.
