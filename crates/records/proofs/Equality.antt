@@ -1,6 +1,6 @@
 -- When two blocks are the same bytes, and that they are exactly if they are equal. Assumes nothing.
 use Prim.Native.Nat.{ℕ, _<_}
-use mathlib.Core.Path.{_≡_, ap, _∙_}
+use mathlib.Core.Path.{_≡_, refl, ap, _∙_}
 use mathlib.Core.Bool.{Bool, true, false, _&&_, and-eq-true-iff, and-false}
 use mathlib.Core.List.{List}
 use mathlib.Core.Logic.{_↔_}
@@ -33,3 +33,10 @@ same-exactly a b = (
       ext-getD 0 a b (eqb-true (length a) (length b) (w .0)) (λ i l. eqb-true _ _ (every-at (sameAt a b) (length a) (w .1) i l)),
   λ e. same-all a b (ap length e) (every-of (sameAt a b) (length a) (λ i l. eq-eqb _ _ (ap (λ (s : List ℕ). getD s i 0) e))),
 )
+
+pub not-same : (a b : List ℕ) → (a ≡ b → ⊥) → sameBytes a b ≡ false
+not-same a b h = go (sameBytes a b) refl
+  where
+    go : (t : Bool) → sameBytes a b ≡ t → t ≡ false
+    go false e = refl
+    go true e = absurd (h (same-exactly a b .0 e))

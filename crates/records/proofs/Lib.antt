@@ -4,6 +4,8 @@ pub mod JobRecords
 pub mod JobTests
 pub mod RoundTrip
 pub mod Equality
+pub mod Parts
+pub mod RecordNumbers
 pub mod RefusalNumbers
 pub mod Reading
 pub mod RangeTests

@@ -1,10 +1,10 @@
 -- Laws of tests, sums, counts and lists over places. Assumes nothing.
 use mathlib.Core.Path.{_≡_, refl, sym, _∙_, ap, ap₂}
-use mathlib.Core.Bool.{Bool, true, false, cond, not, _&&_, and-eq-true-iff, and-false, false≢true}
+use mathlib.Core.Bool.{Bool, true, false, cond, not, _&&_, and-eq-true-iff, and-true, and-false, and-assoc, false≢true}
 use mathlib.Core.List.{List, [], _∷_, _++_}
 use mathlib.Core.Logic.{_⊎_, inl, inr, _≢_}
 use Prim.Native.Nat.{ℕ, zero, suc, _+_, _*_, _≤_, _<_, zero-le}
-use native.Mathlib.Nat.{le-refl, add-zero, mul-zero, mul-add}
+use native.Mathlib.Nat.{le-refl, add-zero, add-suc, mul-zero, mul-add}
 use native.Mathlib.Numerals.{add-one}
 use native.Mathlib.Decide.{ℕ-discrete, decLe}
 use native.Mathlib.Omega.{arith}
@@ -48,6 +48,13 @@ every-stop test (suc n) i l e = elim (ℕ-discrete i n) [
 pub every-on : (test : Set) (i : ℕ) → every test i ≡ true → test i ≡ true → every test (i + 1) ≡ true
 unfolding every
 every-on test i e f = rw (add-one i, e, f)
+
+-- The places below m, and those from m on.
+pub every-split : (test : Set) (m n : ℕ) → every test (m + n) ≡ every test m && every (λ i. test (m + i)) n
+unfolding every
+every-split test m zero = rw add-zero (sym (and-true (every test m)))
+every-split test m (suc n) =
+    rw add-suc (ap (λ (b : Bool). b && test (m + n)) (every-split test m n) ∙ and-assoc (every test m) (every (λ i. test (m + i)) n) (test (m + n)))
 
 -- The loop ends at n.
 pub every-end : (test : Set) {n i : ℕ} → i ≤ n → n ≤ i → every test i ≡ true → every test n ≡ true

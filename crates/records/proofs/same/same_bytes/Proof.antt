@@ -1,71 +1,104 @@
-use Rattle.sets.proofs.Places.{every-none, every-on, every-end}
-use Prim.Native.Nat.{_≤_, _-_}
-use mathlib.Core.Path.{_≡_, sym}
-use mathlib.Core.Bool.{true}
+use Prim.Native.Nat.{ℕ, _*_, _/_}
+use mathlib.Core.Path.{_≡_, sym, _∙_}
+use mathlib.Core.List.{List}
 use native.Mathlib.Omega.{arith}
-use borrow.Author.Tests.{eq-eqb, ne-eqb}
 use lib.ListN.{length}
-use Rattle.sets.specs.Places.{every}
-use Rattle.sets.proofs.Places.{every-none, every-on, every-end}
-use Rattle.records.specs.Same.{sameAt}
-use Rattle.records.proofs.Equality.{same-lengths, same-stop, same-all}
+use borrow.Author.Tests.{not-true, not-false}
+use Rattle.records.proofs.Equality.{same-lengths}
+use Rattle.records.proofs.Parts.{between-whole, between-on, whole-off, between-rest}
 use borrow.Author.Needs.{needs}
 use Rattle.records.proofs.same.same_bytes.Statement.{statement}
 use Rattle.records.proofs.same.same_bytes.Tie as tie
 
-abbrev Inv-loop : tie.InvT-loop
-Inv-loop a b i₀ i = (i ≤ length a) × (every (sameAt a b) i ≡ true)
+returns : tie.Need-returns
+returns c = let a = c .before .before .before .args in sym (same-lengths (a .a .now) (a .b .now) (λ e. omega arith))
 
-abbrev μ-loop : tie.MeasureT-loop
-μ-loop a b i₀ i = length a - i
+mul-long : tie.Need-mul-long
+mul-long c = search needs
 
-returns : tie.Need-returns Inv-loop μ-loop
-returns c = let a = c .before .args in sym (same-lengths (a .a .now) (a .b .now) (λ e. omega arith))
+mul-short : tie.Need-mul-short
+mul-short c = search needs
 
-loop-holds : tie.Need-loop-holds Inv-loop μ-loop
-loop-holds c = (search needs, every-none _)
+mul-records : tie.Need-mul-records
+mul-records c = search needs
 
-shared-slice-read-if2 : tie.Need-shared-slice-read-if2 Inv-loop μ-loop
-shared-slice-read-if2 c = search needs
+same-parts-requires : tie.Need-same-parts-requires
+same-parts-requires c κs = search needs
 
-shared-slice-read-if2-2 : tie.Need-shared-slice-read-if2-2 Inv-loop μ-loop
-shared-slice-read-if2-2 c = search needs
-
-returns-2 : tie.Need-returns-2 Inv-loop μ-loop
+returns-2 : tie.Need-returns-2
 returns-2 c =
-    let p = c .before .before .before in
-    let a = p .before .before .before .args in
-    sym (same-stop (a .a .now) (a .b .now) (p .before .loop .i) (p .loop-test .taken) (ne-eqb _ _ (c .if2 .taken)))
+    let a = c .before .before .before .before .before .args in
+    sym (whole-off (a .a .now) (a .b .now) (c .before .same-parts .ensures) (not-true _ (c .if2 .taken)) (omega arith) (omega arith) (omega arith))
 
-add-i : tie.Need-add-i Inv-loop μ-loop
-add-i c = search needs
+same-parts-requires-2 : tie.Need-same-parts-requires-2
+same-parts-requires-2 c κs = search needs
 
-loop-less : tie.Need-loop-less Inv-loop μ-loop
-loop-less c = search needs
-
-loop-again : tie.Need-loop-again Inv-loop μ-loop
-loop-again c =
-    let l = c .before .before .before .before .loop in
-    (search needs, every-on _ (l .i) (l .inv .1) (eq-eqb _ _ (c .if2 .left)))
-
-returns-3 : tie.Need-returns-3 Inv-loop μ-loop
+returns-3 : tie.Need-returns-3
 returns-3 c =
-    let l = c .before .loop in
-    let a = c .before .before .before .args in
-    sym (same-all (a .a .now) (a .b .now) (omega arith) (every-end _ (l .inv .0) (c .loop-test .left) (l .inv .1)))
+    let a = c .before .before .before .before .before .before .before .args in
+    sym (whole-off (a .a .now) (a .b .now) (c .before .same-parts2 .ensures) (not-true _ (c .if3 .taken)) (omega arith) (omega arith) (omega arith))
+
+same-parts-requires-3 : tie.Need-same-parts-requires-3
+same-parts-requires-3 c κs = search needs
+
+returns-4 : tie.Need-returns-4
+returns-4 c =
+    let a = c .before .before .before .before .before .before .before .before .before .args in
+    sym (whole-off (a .a .now) (a .b .now) (c .before .same-parts3 .ensures) (not-true _ (c .if4 .taken)) (omega arith) (omega arith) (omega arith))
+
+sub-same-singly : tie.Need-sub-same-singly
+sub-same-singly c = search needs
+
+part-same-singly-start : tie.Need-part-same-singly-start
+part-same-singly-start c = search needs
+
+part-same-singly-end : tie.Need-part-same-singly-end
+part-same-singly-end c = search needs
+
+sub-same-singly-2 : tie.Need-sub-same-singly-2
+sub-same-singly-2 c = search needs
+
+part-same-singly-start-2 : tie.Need-part-same-singly-start-2
+part-same-singly-start-2 c = search needs
+
+part-same-singly-end-2 : tie.Need-part-same-singly-end-2
+part-same-singly-end-2 c = search needs
+
+same-singly-requires : tie.Need-same-singly-requires
+same-singly-requires c κs = search needs
+
+returns-5 : tie.Need-returns-5
+returns-5 c =
+    let p = c .before .before .before in
+    let args = p .before .before .before .before .before .before .before .before .before .args in
+    let a = args .a .now in
+    let b = args .b .now in
+    let lengths : length a ≡ length b = omega arith in
+    sym (between-whole a b lengths
+    ∙ between-on a b (length a) (p .before .before .before .before .before .same-parts .ensures) (not-false _ (p .before .before .before .before .if2 .left)) (omega arith) (omega arith)
+    ∙ between-on a b (length a) (p .before .before .before .same-parts2 .ensures) (not-false _ (p .before .before .if3 .left)) (omega arith) (omega arith)
+    ∙ between-on a b (length a) (p .before .same-parts3 .ensures) (not-false _ (p .if4 .left)) (omega arith) (omega arith)
+    ∙ sym (c .same-singly .ensures ∙ between-rest a b _ lengths))
 
 pub same-bytes-spec : {M : Type 1} → statement M
 same-bytes-spec =
     tie.close
     (tie.spec
-    Inv-loop
-    μ-loop
     returns
-    loop-holds
-    shared-slice-read-if2
-    shared-slice-read-if2-2
+    mul-long
+    mul-short
+    mul-records
+    same-parts-requires
     returns-2
-    add-i
-    loop-less
-    loop-again
-    returns-3)
+    same-parts-requires-2
+    returns-3
+    same-parts-requires-3
+    returns-4
+    sub-same-singly
+    part-same-singly-start
+    part-same-singly-end
+    sub-same-singly-2
+    part-same-singly-start-2
+    part-same-singly-end-2
+    same-singly-requires
+    returns-5)
