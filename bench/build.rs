@@ -1,4 +1,5 @@
-//! Links the product's static library, which `rt staticlib capi` writes.
+//! Links the product's static library, and that of the loop over single bytes, which `bench/run`
+//! has `rt` write.
 
 use std::env;
 use std::path::Path;
@@ -7,9 +8,9 @@ fn main() {
     let package = env::var("CARGO_MANIFEST_DIR").expect("cargo names the package's folder");
     let folder = Path::new(&package).join("../target/staticlib");
     println!("cargo:rustc-link-search=native={}", folder.display());
-    println!("cargo:rustc-link-lib=static=capi");
-    println!(
-        "cargo:rerun-if-changed={}",
-        folder.join("libcapi.a").display()
-    );
+    for name in ["capi", "byte_loop"] {
+        println!("cargo:rustc-link-lib=static={name}");
+        let archive = folder.join(format!("lib{name}.a"));
+        println!("cargo:rerun-if-changed={}", archive.display());
+    }
 }

@@ -39,6 +39,23 @@ mod entries {
             bounds: *mut u8,
             bounds_length: usize,
         ) -> u32;
+
+        pub fn ruzhtylen_same_bytes(
+            a: *const u8,
+            a_length: usize,
+            b: *const u8,
+            b_length: usize,
+        ) -> u8;
+    }
+
+    #[link(name = "byte_loop", kind = "static")]
+    extern "C" {
+        pub fn ruzhtylen_same_singly(
+            a: *const u8,
+            a_length: usize,
+            b: *const u8,
+            b_length: usize,
+        ) -> bool;
     }
 }
 
@@ -105,4 +122,16 @@ pub fn plan(jobs: &[u8], low: u8, high: u8, configuration: &mut [u8], bounds: &m
             bounds.len(),
         )
     }
+}
+
+/// Whether two blocks are the same bytes.
+pub fn same_bytes(a: &[u8], b: &[u8]) -> bool {
+    // SAFETY: each pointer and length is of one slice that is lent for the call.
+    unsafe { entries::ruzhtylen_same_bytes(a.as_ptr(), a.len(), b.as_ptr(), b.len()) == 1 }
+}
+
+/// The same, one byte at a time.
+pub fn same_singly(a: &[u8], b: &[u8]) -> bool {
+    // SAFETY: each pointer and length is of one slice that is lent for the call.
+    unsafe { entries::ruzhtylen_same_singly(a.as_ptr(), a.len(), b.as_ptr(), b.len()) }
 }

@@ -4,6 +4,7 @@ pub mod hand_ins;
 pub mod mean_plan;
 pub mod pruned_search;
 pub mod same_algorithm;
+pub mod same_bytes;
 pub mod slowest_list;
 
 use crate::calls::{Answer, Case, Mark, Plan};
