@@ -94,7 +94,7 @@ fn check_pair(a: &[u8], b: &[u8]) {
 }
 
 /// Checks a block against itself, against each block that differs from it in one place, and against
-/// those that are one byte shorter or longer.
+/// one that is a byte longer, either way round.
 fn check_block(block: &[u8]) {
     let mut other = block.to_vec();
     check_pair(block, &other);
