@@ -26,6 +26,9 @@ const CHECKED: usize = 300;
 /// longer block is compared alone.
 const RUN_BYTES: usize = 16384;
 
+/// Where the key and the first hand-in lie.
+const ALIGNMENT: usize = 64;
+
 extern "C" {
     fn memcmp(a: *const c_void, b: *const c_void, length: usize) -> c_int;
 }
@@ -39,10 +42,30 @@ fn memcmp_equal(a: &[u8], b: &[u8]) -> bool {
     a.len() == b.len() && unsafe { memcmp(a.as_ptr().cast(), b.as_ptr().cast(), a.len()) } == 0
 }
 
+/// Bytes from a multiple of `ALIGNMENT` on, since memcmp's time depends on where blocks lie.
+struct Placed {
+    buffer: Vec<u8>,
+    start: usize,
+}
+
+impl Placed {
+    fn of_bytes(bytes: &[u8]) -> Placed {
+        let mut buffer = vec![0; ALIGNMENT + bytes.len()];
+        let start = buffer.as_ptr().align_offset(ALIGNMENT);
+        buffer.truncate(start + bytes.len());
+        buffer[start..].copy_from_slice(bytes);
+        Placed { buffer, start }
+    }
+
+    fn bytes(&self) -> &[u8] {
+        &self.buffer[self.start..]
+    }
+}
+
 /// A key and the hand-ins that are compared with it, one after the other.
 struct Blocks {
-    key: Vec<u8>,
-    hand_ins: Vec<u8>,
+    key: Placed,
+    hand_ins: Placed,
 }
 
 impl Blocks {
@@ -55,19 +78,27 @@ impl Blocks {
         }
         let count = (RUN_BYTES / length).max(1);
         Blocks {
-            key,
-            hand_ins: hand_in.repeat(count),
+            key: Placed::of_bytes(&key),
+            hand_ins: Placed::of_bytes(&hand_in.repeat(count)),
         }
     }
 
-    fn count(&self) -> usize {
-        self.hand_ins.len() / self.key.len()
+    /// The hand-ins, one after the other.
+    fn each(&self) -> impl ExactSizeIterator<Item = &[u8]> {
+        self.hand_ins.bytes().chunks_exact(self.key.bytes().len())
+    }
+
+    /// Checks that each hand-in gets Rust's answer.
+    fn check(&self) {
+        for hand_in in self.each() {
+            check_pair(self.key.bytes(), hand_in);
+        }
     }
 
     /// Compares each hand-in with the key.
     fn pass(&self, same: Same) {
-        for hand_in in self.hand_ins.chunks_exact(self.key.len()) {
-            black_box(same(black_box(&self.key), black_box(hand_in)));
+        for hand_in in self.each() {
+            black_box(same(black_box(self.key.bytes()), black_box(hand_in)));
         }
     }
 
@@ -78,7 +109,7 @@ impl Blocks {
             || self.pass(library::same_bytes),
             || self.pass(other),
         );
-        times.per(self.count())
+        times.per(self.each().len())
     }
 }
 
@@ -116,7 +147,7 @@ pub fn run(scale: &Scale) {
     for length in LENGTHS {
         for (last_differs, kind) in [(false, "equal"), (true, "last differs")] {
             let blocks = Blocks::of_length(random, length, last_differs);
-            check_pair(&blocks.key, &blocks.hand_ins[..length]);
+            blocks.check();
             let name = format!("f {length} bytes, {kind}");
             let goal = (GOAL_FROM <= length).then_some(Goal::AtLeast(GOAL));
             let times = blocks.time(scale.effort, library::same_singly);

@@ -18,7 +18,7 @@ sameBytes a b = eqb (length a) (length b) && every (sameAt a b) (length a)
 
 -- ---- how the code finds it (02, E3): each record of four bytes as one number. Only contracts of private functions cite what follows.
 
--- The two blocks have the same byte at each place from one on up to an end.
+-- The two blocks have the same byte at each place that is not before `from` and is before `end`.
 unfoldable pub sameBetween : List ℕ → List ℕ → ℕ → ℕ → Bool
 sameBetween a b from end = every (λ i. sameAt a b (from + i)) (end - from)
 

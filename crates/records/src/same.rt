@@ -12,7 +12,7 @@ const LONG_PART: usize = 128;
 
 const SHORT_PART: usize = 16;
 
-// The number of the record that a list begins with. The places are constants, so that the compiler makes one load of four bytes.
+// The number of the record that the bytes begin with. The places are constants, so that the compiler makes one load of four bytes.
 fn number_of(bytes: &[u8]) -> u32
     requires { ⌜ recordSize ≤ length (now bytes) ⌝ }
     ensures { λ r. ⌜ r ≡ numberOf (now (bytes .entry)) ⌝ }

@@ -11,7 +11,7 @@ use borrow.Author.Needs.{needs}
 use Rattle.records.proofs.same.same_records.Statement.{statement}
 use Rattle.records.proofs.same.same_records.Tie as tie
 
--- The records before i differ in none of the bits exactly if their bytes are the same.
+-- No difference is gathered exactly if the bytes before place i are the same.
 abbrev Inv-loop : tie.InvT-loop
 Inv-loop a b differences₀ i₀ differences i = (i ≤ length a) × (i % recordSize ≡ 0) × (eqb differences 0 ≡ sameBetween a b 0 i)
 
