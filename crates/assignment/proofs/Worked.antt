@@ -16,7 +16,7 @@ use Rattle.assignment.specs.Plan.{firstFrom, smallest, serves, quantaFor
 
 -- A job with its C, T and D, and a setting with its level, policy and quantum.
 abbrev job : ℕ → ℕ → ℕ → ℕ → Job
-job id cost period deadline = record { id = id; cost = cost; period = period; deadline = deadline }
+job id cost period deadline = record { id = id; delay = 0; cost = cost; period = period; deadline = deadline }
 
 abbrev set : ℕ → ℕ → ℕ → ℕ → Setting
 set id level policy quantum = record { id = id; level = level; policy = policy; quantum = quantum }

@@ -23,9 +23,9 @@ editTests count place cost period deadline = countTests count ++ ((ltb place cou
 abbrev pub judged : ℕ → ℕ → ℕ → ℕ → ℕ → Answer (Unit {0})
 judged count place cost period deadline = answer (editTests count place cost period deadline) tt
 
--- "C, T and D of that entry change, its id and the other entries stay."
+-- "C, T and D of that entry change, its id and the other entries stay"; an edit keeps J too (02, E4).
 abbrev pub withTimes : Job → ℕ → ℕ → ℕ → Job
-withTimes job cost period deadline = record { id = job .id; cost = cost; period = period; deadline = deadline }
+withTimes job cost period deadline = record { id = job .id; delay = job .delay; cost = cost; period = period; deadline = deadline }
 
 abbrev pub edited : List Job → ℕ → ℕ → ℕ → ℕ → List Job
 edited jobs place cost period deadline = set jobs place (withTimes (jobAt jobs place) cost period deadline)

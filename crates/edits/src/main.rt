@@ -1,4 +1,5 @@
 // Edits of one table, for a stored run: an edit that is done, each refusal, and a neighbour that no job block could have and that stays.
+// Each job's delay, which no edit changes, is printed last.
 use desk::EditAnswer;
 use desk::held::ROOM;
 use libc::STDOUT_FILENO;
@@ -13,7 +14,8 @@ fn print_job(job: Job) {
     print_number(job.id as u16, b" ");
     print_number(job.cost, b" ");
     print_number(job.period, b" ");
-    print_number(job.deadline, b"\n");
+    print_number(job.deadline, b" ");
+    print_number(job.delay as u16, b"\n");
 }
 
 fn print_answer(answer: EditAnswer) {
@@ -44,18 +46,21 @@ fn table() -> [Job; ROOM] {
     let mut jobs = [Job::BLANK; ROOM];
     jobs[0] = Job {
         id: 7,
+        delay: 3,
         cost: 1,
         period: 4,
         deadline: 4,
     };
     jobs[1] = Job {
         id: 0,
+        delay: 255,
         cost: 0,
         period: 9,
         deadline: 60001,
     };
     jobs[2] = Job {
         id: 9,
+        delay: 200,
         cost: 2,
         period: 6,
         deadline: 6,

@@ -6,9 +6,9 @@ use lib.Dec.{eqb}
 use Rattle.records.specs.Records.{wordBytes}
 use Rattle.records.specs.Refusals.{Answer, refused, given}
 
--- The bytes of a record: id, second byte, C, T and D.
+-- The bytes of a record: id, J, C, T and D.
 unfoldable pub row : ℕ → ℕ → ℕ → ℕ → ℕ → List ℕ
-row id second cost period deadline = id ∷ second ∷ (wordBytes cost ++ (wordBytes period ++ wordBytes deadline))
+row id delay cost period deadline = id ∷ delay ∷ (wordBytes cost ++ (wordBytes period ++ wordBytes deadline))
 
 -- Two answers are the same.
 unfoldable pub agree : Answer ℕ → Answer ℕ → Bool

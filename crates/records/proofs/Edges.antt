@@ -52,11 +52,14 @@ cases =
     ∷ block (row 3 0 1 9 9 ++ row 3 0 1 9 9) (refused 3)
     ∷ block (row 3 0 1 9 9 ++ row 2 0 1 9 9) (refused 3)
     ∷ block (row 0 0 1 9 9) (refused 2)
-    ∷ block (row 1 7 1 9 9) (refused 2)
+    -- the delay, of which refusal 2 says nothing
+    ∷ block (row 1 7 1 9 9) (given 1)
+    ∷ block (row 1 255 1 9 9) (given 1)
+    ∷ block (row 0 7 1 9 9) (refused 2)
     -- two faults at once: in one record, and in different ones
     ∷ block (row 0 0 0 9 9) (refused 2)
     ∷ block (row 3 0 0 9 9 ++ row 3 0 1 9 9) (refused 3)
-    ∷ block (row 3 0 1 60001 9 ++ (row 2 0 1 9 9 ++ row 4 1 1 9 9)) (refused 2)
+    ∷ block (row 3 0 1 60001 9 ++ (row 2 0 1 9 9 ++ row 4 1 1 9 9)) (refused 3)
     ∷ block (row 3 0 1 9 9 ++ (row 2 0 1 9 9 ++ row 0 0 1 9 9)) (refused 2)
     ∷ block (row 0 0 0 9 9 ++ (1 ∷ [])) (refused 1)
     -- the range of quanta

@@ -19,10 +19,9 @@ pub job-back : (job : Job) (s : List ℕ) → jobOf (jobBytes job ++ s) ≡ job
 unfolding jobOf jobBytes wordBytes
 job-back job s = simp word-back
 
--- What is known of n records of a block that is read: they are there, their second bytes are 0, and all are bytes.
+-- What is known of n records of a block that is read: they are there, and all are bytes.
 pub record Known (n : ℕ) (s : List ℕ) : Type 0 where
   pub room : jobSize * n ≤ length s
-  pub zeros : (i : ℕ) → i < n → getD s (jobSize * i + 1) 0 ≡ 0
   pub bytes : AllBytes s
 
 -- What was read is written again as it stood.
@@ -31,13 +30,9 @@ unfolding jobBytes jobOf wordBytes
 job-again n s K =
     let long : jobSize ≤ length s = omega (arith, K .room) in
     let byte : (i : ℕ) → getD s i 0 < 256 = K .bytes in (
-      rw (spell jobSize 0 s long) (simp (K .zeros 0 (omega arith), word-high, word-low, byte)),
+      rw (spell jobSize 0 s long) (simp (word-high, word-low, byte)),
       record {
         room = simp length-drop (omega (arith, K .room));
-        zeros = λ i l. getD-drop jobSize s (jobSize * i + 1) 0 ∙ shift i l;
         bytes = λ i. rw getD-drop (K .bytes (jobSize + i));
       },
     )
-  where
-    shift : (i : ℕ) → i < n → getD s (jobSize + (jobSize * i + 1)) 0 ≡ 0
-    shift i l = let e : jobSize + (jobSize * i + 1) ≡ jobSize * suc i + 1 = omega arith in rw e (K .zeros (suc i) (omega arith))

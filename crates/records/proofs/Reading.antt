@@ -1,16 +1,18 @@
 -- What a caller of read_jobs knows from its answer: the laws by which later calls go on from a job block. Assumes nothing.
-use Prim.Native.Nat.{ℕ, _%_, _*_, _≤_, _<_}
-use mathlib.Core.Path.{_≡_, sym, ap, subst, _∙_}
+use Prim.Native.Nat.{ℕ, zero, suc, _+_, _%_, _*_, _≤_, _<_}
+use mathlib.Core.Path.{_≡_, refl, sym, ap, subst, _∙_}
 use mathlib.Core.Bool.{true, false≢true}
 use mathlib.Core.List.{List, [], _++_}
 use native.Mathlib.Decide.{decLe}
 use native.Mathlib.Omega.{arith}
-use lib.ListN.{length}
+use lib.ListN.{length, getD, drop, List·getD-eq-default}
+use lib.Seq.{getD-drop}
 use borrow.Author.Tests.{leb-true, eqb-true, le-leb, lt-leb}
 use Rattle.sets.proofs.Places.{every-at}
 use Rattle.records.specs.Limits.{mostJobs}
+use Rattle.records.specs.Records.{chunks}
 use Rattle.records.specs.Refusals.{Answer, number, Tests, outcome, turned, Accepts}
-use Rattle.records.specs.Jobs.{jobSize, jobOf, jobAt, timesOk, jobOkAt, jobTests, countTests, tableTests, AcceptedJobs, blockTests, jobCount, jobList, jobTable, jobsAnswer, jobsOutcome, readJobs}
+use Rattle.records.specs.Jobs.{jobSize, jobOf, blankJob, jobAt, NoDelay, timesOk, jobOkAt, jobTests, countTests, tableTests, AcceptedJobs, blockTests, jobCount, jobsIn, jobList, jobTable, jobsAnswer, jobsOutcome, readJobs}
 use Rattle.records.specs.declared.job.Job.{Job}
 use Rattle.records.specs.declared.judge.JobRule.the-variants.{Times}
 use Rattle.records.specs.declared.refusal.Refusal.{Refusal}
@@ -39,7 +41,7 @@ module _ (block : List ℕ) (ok : Accepts (blockTests block)) where
   accepted-list =
       let n : length (jobList block) ≡ jobCount block = jobs-listed block in
       subst (λ (k : ℕ). Accepts (tableTests k (jobList block))) (sym n)
-      (accepts-both (countTests (jobCount block)) (jobTests (jobCount block) (jobList block)) count-accepted (ok .1 .1 .1 .1))
+      (accepts-both (countTests (jobCount block)) (jobTests (jobCount block) (jobList block)) count-accepted (ok .1 .1 .1))
 
 -- ---- an accepted list
 
@@ -60,6 +62,24 @@ module _ (jobs : List Job) (ok : AcceptedJobs jobs) where
         | yes h ↦ h
         | no h ↦ absurd (false≢true (simp (lt-leb 1 cost (omega arith)) at e))
       ]
+
+-- ---- a block without delays
+
+-- A job's delay is the second byte of its record.
+delay-is : (n : ℕ) (block : List ℕ) (i : ℕ) → i < n → jobAt (jobsIn n block) i .delay ≡ getD block (jobSize * i + 1) 0
+unfolding chunks jobOf
+delay-is zero block i l = absurd (omega arith)
+delay-is (suc n) block zero l = refl
+delay-is (suc n) block (suc i) l =
+    let e : jobSize + (jobSize * i + 1) ≡ jobSize * suc i + 1 = omega arith in
+    delay-is n (drop jobSize block) i (omega arith) ∙ getD-drop jobSize block (jobSize * i + 1) 0 ∙ ap (λ (k : ℕ). getD block k 0) e
+
+-- Second bytes of 0, which 01 alone asks for: no job has a delay.
+pub old-block : (block : List ℕ) → ((i : ℕ) → i < jobCount block → getD block (jobSize * i + 1) 0 ≡ 0) → NoDelay (jobList block)
+old-block block zeros i = elim (decLe (suc i) (jobCount block)) [
+  | yes l ↦ delay-is (jobCount block) block i l ∙ zeros i l
+  | no l ↦ ap (λ (job : Job). job .delay) (List·getD-eq-default (jobList block) blankJob (omega (arith, jobs-listed block)))
+]
 
 -- ---- after a call of read_jobs
 

@@ -2,22 +2,19 @@
 -- writer makes of what was read". Assumes nothing.
 use Prim.Native.Nat.{ℕ, _*_, _%_, _≤_}
 use mathlib.Core.Path.{_≡_, sym, ap, ap₂, subst, _∙_}
-use mathlib.Core.Bool.{true}
 use mathlib.Core.List.{List, [], _∷_, _++_}
 use native.Mathlib.Omega.{arith}
 use lib.Dec.{leb}
 use lib.ListN.{length, take, drop}
 use lib.Seq.{take-at, length-take-le, take-all}
 use borrow.Author.Tests.{le-leb, eq-eqb, leb-true, eqb-true}
-use Rattle.sets.specs.Places.{every}
-use Rattle.sets.proofs.Places.{every-of, every-at}
 use Rattle.records.specs.Limits.{mostJobs}
 use Rattle.records.specs.Records.{AllBytes}
 use Rattle.records.specs.Refusals.{Answer, given, Tests, Accepts}
-use Rattle.records.specs.Jobs.{jobSize, jobOf, jobBytes, blankJob, countTests, jobTests, tableTests, AcceptedJobs, blockTests, jobCount, jobsIn, jobList, secondZero, jobTable, readJobs, bytesOf, writeTests, writeJobs}
+use Rattle.records.specs.Jobs.{jobSize, jobOf, jobBytes, blankJob, countTests, jobTests, tableTests, AcceptedJobs, blockTests, jobCount, jobsIn, jobList, jobTable, readJobs, bytesOf, writeTests, writeJobs}
 use Rattle.records.specs.declared.job.Job.{Job}
 use Rattle.records.proofs.Outcomes.{accepts, accepts-both, accepts-first}
-use Rattle.records.proofs.FixedWidth.{length-flat, length-chunks, flat-at, take-table, chunks-flat, flat-chunks}
+use Rattle.records.proofs.FixedWidth.{length-flat, length-chunks, take-table, chunks-flat, flat-chunks}
 use Rattle.records.proofs.JobRecords.{job-width, job-back, Known, job-again}
 use Rattle.records.proofs.JobTests.{tests-take, tests-table}
 
@@ -32,23 +29,18 @@ module _ (jobs : List Job) (ok : AcceptedJobs jobs) where
   listed : jobList (bytesOf jobs) ≡ jobs
   listed = ap (λ (n : ℕ). jobsIn n (bytesOf jobs)) counted ∙ chunks-flat jobSize jobBytes jobOf job-width job-back jobs
 
-  zeros : every (secondZero (bytesOf jobs)) (length jobs) ≡ true
-  unfolding jobBytes
-  zeros = every-of (secondZero (bytesOf jobs)) (length jobs) (λ i l. eq-eqb _ 0 (flat-at jobBytes jobSize job-width jobs blankJob i 1 l (omega arith)))
-
   pub block-accepted : Accepts (blockTests (bytesOf jobs))
   block-accepted =
       let few : 1 ≤ length jobs = leb-true _ _ (ok .0) in
       let many : length jobs ≤ mostJobs = leb-true _ _ (ok .1 .0) in
       let s = bytesOf jobs in
-      let z : every (secondZero s) (jobCount s) ≡ true = ap (every (secondZero s)) counted ∙ zeros in
       let t : jobTests (jobCount s) (jobList s) ≡ jobTests (length jobs) jobs = ap₂ jobTests counted listed in (
         le-leb 1 (length s) (omega (arith, size)),
         (
           le-leb (length s) (mostJobs * jobSize) (omega (arith, size)),
           (
             eq-eqb (length s % jobSize) 0 (omega (arith, size)),
-            (z, subst (λ (tests : Tests). Accepts tests) (sym t) (ok .1 .1)),
+            subst (λ (tests : Tests). Accepts tests) (sym t) (ok .1 .1),
           ),
         ),
       )
@@ -89,9 +81,9 @@ write-read block output bytes fit ok =
     let whole : length block % jobSize ≡ 0 = eqb-true _ _ (ok .1 .1 .0) in
     let size : jobSize * n ≡ length block = omega arith in
     let list : take n (jobTable jobs) ≡ jobs = take-table mostJobs blankJob n jobs (length-chunks jobSize jobOf n block) in
-    let known : Known n block = record { room = omega arith; zeros = λ i l. eqb-true _ _ (every-at (secondZero block) n (ok .1 .1 .1 .0) i l); bytes = bytes } in
+    let known : Known n block = record { room = omega arith; bytes = bytes } in
     let same : bytesOf jobs ≡ block = flat-chunks jobSize jobBytes jobOf Known job-again n block known ∙ take-all (jobSize * n) block (omega arith) in
-    let tests : Accepts (jobTests n (jobTable jobs)) = subst (λ (t : Tests). Accepts t) (sym (tests-table n jobs)) (ok .1 .1 .1 .1) in
+    let tests : Accepts (jobTests n (jobTable jobs)) = subst (λ (t : Tests). Accepts t) (sym (tests-table n jobs)) (ok .1 .1 .1) in
     let room : Tests = (leb (jobSize * n) (length output), 12) ∷ [] in
     let all : Accepts (writeTests n (jobTable jobs) (length output)) =
     accepts-both (tableTests n (jobTable jobs)) room (le-leb 1 n (omega arith), (le-leb n mostJobs (omega arith), tests)) (le-leb (jobSize * n) (length output) (omega arith), tt) in

@@ -2,6 +2,7 @@
 use Prim.Native.Nat.{ℕ, zero, suc, _+_, _*_, _/_, _%_}
 use mathlib.Core.List.{List, [], _∷_, _++_}
 use mathlib.Core.Bool.{Bool, _&&_}
+use mathlib.Core.Path.{_≡_}
 use lib.ListN.{length, getD, take, drop}
 use lib.Dec.{ltb, leb, eqb}
 use Rattle.sets.specs.Places.{every}
@@ -27,11 +28,12 @@ use Rattle.records.specs.declared.block.Wrote.the-variants.{Bytes, NotWr
 abbrev pub jobSize : ℕ
 jobSize = 8
 
--- The job in the first bytes of a block: id, a zero byte, cost, period, deadline.
+-- The job in the first bytes of a block: id, delay (02, E4), cost, period, deadline.
 unfoldable pub jobOf : List ℕ → Job
 jobOf block =
     record {
       id = getD block 0 0;
+      delay = getD block 1 0;
       cost = word (getD block 2 0) (getD block 3 0);
       period = word (getD block 4 0) (getD block 5 0);
       deadline = word (getD block 6 0) (getD block 7 0);
@@ -39,14 +41,18 @@ jobOf block =
 
 -- The bytes of a job.
 unfoldable pub jobBytes : Job → List ℕ
-jobBytes job = job .id ∷ 0 ∷ (wordBytes (job .cost) ++ (wordBytes (job .period) ++ wordBytes (job .deadline)))
+jobBytes job = job .id ∷ job .delay ∷ (wordBytes (job .cost) ++ (wordBytes (job .period) ++ wordBytes (job .deadline)))
 
 -- An entry of a table that holds no job, and the job at a place of a list.
 abbrev pub blankJob : Job
-blankJob = record { id = 0; cost = 0; period = 0; deadline = 0 }
+blankJob = record { id = 0; delay = 0; cost = 0; period = 0; deadline = 0 }
 
 abbrev pub jobAt : List Job → ℕ → Job
 jobAt jobs i = getD jobs i blankJob
+
+-- Each job's delay is 0, as in a list from before delays.
+abbrev pub NoDelay : List Job → Type 0
+NoDelay jobs = (i : ℕ) → jobAt jobs i .delay ≡ 0
 
 -- ---- refusals 2, 3 and 5
 
@@ -113,13 +119,9 @@ jobsIn n block = chunks jobSize jobOf n block
 abbrev pub jobList : List ℕ → List Job
 jobList block = jobsIn (jobCount block) block
 
--- The second byte of the record at place i is 0.
-abbrev pub secondZero : List ℕ → ℕ → Bool
-secondZero block i = eqb (getD block (jobSize * i + 1) 0) 0
-
 -- Refusals 1, 2, 3 and 5 of a job block.
 abbrev pub blockTests : List ℕ → Tests
-blockTests block = sizeTests (length block) ++ ((every (secondZero block) (jobCount block), 2) ∷ jobTests (jobCount block) (jobList block))
+blockTests block = sizeTests (length block) ++ jobTests (jobCount block) (jobList block)
 
 -- A table of jobs, blank past the list.
 abbrev pub jobTable : List Job → List Job

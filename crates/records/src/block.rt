@@ -46,9 +46,6 @@ pub fn read_jobs(block: &[u8]) -> JobsRead
         return jobs_refused(refusal);
     }
     let n = size / Job::SIZE;
-    if !bytes::seconds_zero(block, n) {
-        return jobs_refused(Refusal::JobId);
-    }
     let table = bytes::decode(block, n);
     let judged = judge::judge_jobs(table, n);
     if let Verdict::Turned(refusal) = judged {

@@ -3,9 +3,8 @@ ghost use mathlib.Core.Path.{_≡_};
 ghost use mathlib.Core.List.{_++_};
 ghost use Prim.Native.Nat.{_*_, _≤_};
 ghost use lib.ListN.{length, take, drop};
-ghost use Rattle.sets.specs.Places.{every};
 ghost use Rattle.records.specs.Limits.{mostJobs};
-ghost use Rattle.records.specs.Jobs.{jobSize, jobOf, jobBytes, secondZero, jobsIn, jobTable, bytesOf};
+ghost use Rattle.records.specs.Jobs.{jobSize, jobOf, jobBytes, jobsIn, jobTable, bytesOf};
 use crate::job::Job;
 use crate::word::word_of;
 
@@ -16,25 +15,11 @@ fn get_job(block: &[u8]) -> Job
 {
     Job {
         id: block[0],
+        delay: block[1],
         cost: word_of(block[2], block[3]),
         period: word_of(block[4], block[5]),
         deadline: word_of(block[6], block[7]),
     }
-}
-
-// Whether the second byte of each of the first n records is 0.
-pub(crate) fn seconds_zero(block: &[u8], n: usize) -> bool
-    requires { ⌜ jobSize * n ≤ length (now block) ⌝ }
-    ensures { λ r. ⌜ r ≡ every (secondZero (now (block .entry))) n ⌝ }
-{
-    let mut i = 0;
-    while i < n {
-        if block[Job::SIZE * i + 1] != 0 {
-            return false;
-        }
-        i += 1;
-    }
-    true
 }
 
 // The first n records of a block as a table.
@@ -57,7 +42,7 @@ fn put_job(output: &mut [u8], job: Job)
     ensures { λ _. ⌜ now (output .exit) ≡ jobBytes job ++ drop jobSize (now (output .entry)) ⌝ }
 {
     output[0] = job.id;
-    output[1] = 0;
+    output[1] = job.delay;
     output[2] = (job.cost / 256) as u8;
     output[3] = (job.cost % 256) as u8;
     output[4] = (job.period / 256) as u8;

@@ -6,6 +6,8 @@ use crate::refusal::Refusal;
 
 pub struct Job {
     pub id: u8,
+    // How late its releases may be noticed, in ticks.
+    pub delay: u8,
     pub cost: u16,
     pub period: u16,
     pub deadline: u16,
@@ -33,6 +35,7 @@ impl Job {
     // An entry of a table that holds no job.
     pub const BLANK: Job = Job {
         id: 0,
+        delay: 0,
         cost: 0,
         period: 0,
         deadline: 0,
@@ -58,8 +61,8 @@ impl Job {
     }
 
     // A job, or the first refusal that applies to its numbers.
-    pub fn new(id: u8, cost: u16, period: u16, deadline: u16) -> NewJob
-        ensures { λ r. ⌜ newJobAnswer r ≡ answer (newJobTests id cost period deadline) (record { id = id; cost = cost; period = period; deadline = deadline }) ⌝ }
+    pub fn new(id: u8, delay: u8, cost: u16, period: u16, deadline: u16) -> NewJob
+        ensures { λ r. ⌜ newJobAnswer r ≡ answer (newJobTests id cost period deadline) (record { id = id; delay = delay; cost = cost; period = period; deadline = deadline }) ⌝ }
     {
         if id < 1 {
             return NewJob::NotMade(Refusal::JobId);
@@ -69,6 +72,7 @@ impl Job {
         }
         NewJob::Made(Job {
             id,
+            delay,
             cost,
             period,
             deadline,

@@ -6,7 +6,7 @@ use mathlib.Core.List.{List, [], _∷_, _++_, append-assoc, append-nil}
 use native.Mathlib.Decide.{decLe}
 use native.Mathlib.Omega.{arith}
 use lib.Dec.{eqb}
-use lib.ListN.{length, length-append}
+use lib.ListN.{length, getD, length-append}
 use borrow.Author.Tests.{lt-ltb, le-leb, ne-eqb}
 use Rattle.records.specs.Limits.{mostJobs}
 use Rattle.records.specs.Records.{flat}
@@ -17,7 +17,7 @@ use Rattle.text.specs.declared.words.Mark.the-variants.{LineEnd, Comment
 use Rattle.text.specs.declared.words.WordAnswer.the-variants.{Number}
 use Rattle.text.specs.declared.list.LineAnswer.{LineAnswer}
 use Rattle.text.specs.declared.list.LineAnswer.the-variants.{Found}
-use Rattle.text.specs.Lists.{tab, carriageReturn, numberSign, isBlank, isMark, isDigit, partsFrom, parts, before, nonEmpty, lines, words, allDigits, valueFrom, numberOf, contentLine, wordsLine, readLine, Reading, given, withLine, readLines, tabled, readList, jobText, listText, FieldsFit}
+use Rattle.text.specs.Lists.{tab, carriageReturn, numberSign, isBlank, isMark, isDigit, partsFrom, parts, before, nonEmpty, lines, words, allDigits, valueFrom, numberOf, numbers, readNumbers, delayLimits, contentLine, wordsLine, readLine, Reading, given, withLine, readLines, tabled, readList, delayText, jobText, listText, FieldsFit}
 use Rattle.text.proofs.Writing.{decimal-one, decimal-more}
 use Rattle.text.proofs.Parsing.{digit-range}
 
@@ -126,28 +126,61 @@ word-last n =
 
 -- A job's line without its line feed.
 abbrev body : Job → List ℕ
-body job = decimal (job .id) ++ (space ∷ (decimal (job .cost) ++ (space ∷ (decimal (job .period) ++ (space ∷ decimal (job .deadline))))))
+body job =
+    decimal (job .id) ++ (space ∷ (decimal (job .cost) ++ (space ∷ (decimal (job .period) ++ (space ∷ (decimal (job .deadline) ++ delayText (job .delay)))))))
 
-body-words : (job : Job) → words (body job) ≡ decimal (job .id) ∷ decimal (job .cost) ∷ decimal (job .period) ∷ decimal (job .deadline) ∷ []
+-- The words of a delay, and its numbers.
+abbrev delayWords : ℕ → List (List ℕ)
+delayWords zero = []
+delayWords (suc delay) = decimal (suc delay) ∷ []
+
+abbrev delayNumbers : ℕ → List ℕ
+delayNumbers zero = []
+delayNumbers (suc delay) = suc delay ∷ []
+
+last-words : (n delay : ℕ) → words (decimal n ++ delayText delay) ≡ decimal n ∷ delayWords delay
+last-words n zero = ap words (append-nil (decimal n)) ∙ word-last n
+last-words n (suc delay) = word-then n _ ∙ ap (λ (l : List (List ℕ)). decimal n ∷ l) (word-last (suc delay))
+
+delay-read : (delay : ℕ) → delay ≤ 255 → readNumbers [] delayLimits (delayWords delay) ≡ numbers (delayNumbers delay)
+delay-read zero h = refl
+delay-read (suc delay) h = rw (number-back 255 (suc delay) h)
+
+delay-back : (delay : ℕ) → getD (delayNumbers delay) 0 0 ≡ delay
+delay-back zero = refl
+delay-back (suc delay) = refl
+
+body-words : (job : Job)
+    → words (body job) ≡ decimal (job .id) ∷ decimal (job .cost) ∷ decimal (job .period) ∷ decimal (job .deadline) ∷ delayWords (job .delay)
 body-words job =
     word-then (job .id) _
     ∙ ap (λ (l : List (List ℕ)). decimal (job .id) ∷ l) (word-then (job .cost) _
     ∙ ap (λ (l : List (List ℕ)). decimal (job .cost) ∷ l) (word-then (job .period) _
-    ∙ ap (λ (l : List (List ℕ)). decimal (job .period) ∷ l) (word-last (job .deadline))))
+    ∙ ap (λ (l : List (List ℕ)). decimal (job .period) ∷ l) (last-words (job .deadline) (job .delay))))
 
 body-free : (stop : ℕ) → stop < digit 0 → eqb space stop ≡ false → (job : Job) → Free (λ byte. eqb byte stop) (body job)
 body-free stop l e job =
     let free : ℕ → Bool = λ byte. eqb byte stop in
     let number : (n : ℕ) → Free free (decimal n) = decimal-free free (apart stop l) in
-    free-append free (decimal (job .id)) _ (number (job .id))
-    (e, free-append free (decimal (job .cost)) _ (number (job .cost)) (e, free-append free (decimal (job .period)) _ (number (job .period)) (e, number (job .deadline))))
+    free-append free (decimal (job .id)) _ (number (job .id)) (
+      e,
+      free-append free (decimal (job .cost)) _ (number (job .cost)) (
+        e,
+        free-append free (decimal (job .period)) _ (number (job .period))
+            (e, free-append free (decimal (job .deadline)) _ (number (job .deadline)) (delay-free (job .delay))),
+      ),
+    )
+  where
+    delay-free : (delay : ℕ) → Free (λ byte. eqb byte stop) (delayText delay)
+    delay-free zero = tt
+    delay-free (suc delay) = (e, decimal-free (λ byte. eqb byte stop) (apart stop l) (suc delay))
 
-body-read : (job : Job) → (job .id ≤ 255) × (job .cost ≤ 65535) × (job .period ≤ 65535) × (job .deadline ≤ 65535) → readLine (body job) ≡ Found job
+body-read : (job : Job) → (job .id ≤ 255) × (job .delay ≤ 255) × (job .cost ≤ 65535) × (job .period ≤ 65535) × (job .deadline ≤ 65535) → readLine (body job) ≡ Found job
 unfolding readLine
 body-read job fit =
     ap contentLine (before-free (isMark Comment) (body job) (body-free numberSign (omega arith) refl job))
     ∙ ap wordsLine (body-words job)
-    ∙ rw (number-back 255 (job .id) (fit .0), number-back 65535 (job .cost) (fit .1), number-back 65535 (job .period) (fit .2), number-back 65535 (job .deadline) (fit .3))
+    ∙ rw (number-back 255 (job .id) (fit .0), number-back 65535 (job .cost) (fit .2), number-back 65535 (job .period) (fit .3), number-back 65535 (job .deadline) (fit .4), delay-read (job .delay) (fit .1), delay-back (job .delay))
 
 job-lines : (job : Job) (rest : List ℕ) → lines (jobText job ++ rest) ≡ body job ∷ lines rest
 job-lines job rest =
@@ -163,9 +196,9 @@ read-on number seen [] fit few = ap given (sym (append-nil seen))
 read-on number seen (job ∷ jobs) fit few =
     let more : length (seen ++ (job ∷ [])) + length jobs ≤ mostJobs = omega (arith, length-append seen (job ∷ [])) in
     ap (readLines number (given seen)) (job-lines job (listText jobs))
-    ∙ ap (λ (line : LineAnswer). readLines (number + 1) (withLine number line (given seen)) (lines (listText jobs))) (body-read job (fit .0, fit .1, fit .2, fit .3))
+    ∙ ap (λ (line : LineAnswer). readLines (number + 1) (withLine number line (given seen)) (lines (listText jobs))) (body-read job (fit .0, fit .1, fit .2, fit .3, fit .4))
     ∙ ap (λ (r : Reading (List Job)). readLines (number + 1) r (lines (listText jobs))) (room number seen job (omega arith))
-    ∙ read-on (number + 1) (seen ++ (job ∷ [])) jobs (fit .4) more
+    ∙ read-on (number + 1) (seen ++ (job ∷ [])) jobs (fit .5) more
     ∙ ap given (append-assoc seen (job ∷ []) jobs)
   where
     room : (number : ℕ) (seen : List Job) (job : Job) → length seen < mostJobs → withLine number (Found job) (given seen) ≡ given (seen ++ (job ∷ []))

@@ -12,13 +12,13 @@ use lib.Seq.{drop-cons, drop-drop, getD-drop}
 use borrow.Author.Tests.{not-true, leb-true, lt-leb}
 use Rattle.text.specs.Lines.{digit}
 use Rattle.text.specs.declared.fault.Fault.{Fault}
-use Rattle.text.specs.declared.fault.Fault.the-variants.{NotANumber, TooLarge, NotFour}
+use Rattle.text.specs.declared.fault.Fault.the-variants.{NotANumber, TooLarge, NotFourOrFive}
 use Rattle.text.specs.declared.words.Mark.the-variants.{Blank, Word}
 use Rattle.text.specs.declared.words.WordAnswer.{WordAnswer}
 use Rattle.text.specs.declared.words.WordAnswer.the-variants.{Number, Wrong}
 use Rattle.text.specs.declared.list.FieldAnswer.{FieldAnswer}
 use Rattle.text.specs.declared.list.FieldAnswer.the-variants.{Number as FieldNumber, Wrong as FieldWrong}
-use Rattle.text.specs.Lists.{isBlank, isMark, isDigit, partsFrom, parts, before, nonEmpty, words, allDigits, valueFrom, numberOf, numbers, wrong, wordThen, readNumbers, fieldLimits, numbersLine, contentLine, fieldThen, FieldWithin, FieldRead}
+use Rattle.text.specs.Lists.{isBlank, isMark, isDigit, partsFrom, parts, before, nonEmpty, words, allDigits, valueFrom, numberOf, numbers, wrong, wordThen, readNumbers, fieldLimits, delayLimits, numbersLine, contentLine, fieldThen, FieldWithin, FieldRead}
 
 -- ---- up to a byte
 
@@ -174,50 +174,57 @@ module _ (content : List ℕ) (at start : ℕ) (found : start ≡ at + length (b
           let e : not (isBlank (getD (drop at content) n 0)) ≡ true = before-stop (isMark Word) (drop at content) inside in
           ap isBlank (ap (λ (k : ℕ). getD content k 0) found ∙ sym (getD-drop at content n 0)) ∙ not-true (isBlank (getD (drop at content) n 0)) e
 
-  -- Whether words are left where none is asked for.
-  pub none-left : length content ≤ start → readNumbers [] (words (drop at content)) ≡ numbers []
-  none-left h = ap (readNumbers []) (no-word h)
+  -- Whether words are left where none is asked for, or where one may be missing.
+  pub none-left : (optional : List ℕ) → length content ≤ start → readNumbers [] optional (words (drop at content)) ≡ numbers []
+  none-left optional h = ap (readNumbers [] optional) (no-word h)
 
-  pub some-left : at ≤ length content → start < length content → readNumbers [] (words (drop at content)) ≡ wrong NotFour
-  some-left room h = ap (readNumbers []) (next-word room h (start + length (before (isMark Blank) (drop start content))) refl)
+  pub some-left : at ≤ length content → start < length content → readNumbers [] [] (words (drop at content)) ≡ wrong NotFourOrFive
+  some-left room h = ap (readNumbers [] []) (next-word room h (start + length (before (isMark Blank) (drop start content))) refl)
+
+  pub one-there : (limit : ℕ) (optional : List ℕ) → at ≤ length content → start < length content
+      → readNumbers [] (limit ∷ optional) (words (drop at content)) ≡ readNumbers (limit ∷ []) optional (words (drop at content))
+  one-there limit optional room h = let e = next-word room h (start + length (before (isMark Blank) (drop start content))) refl in rw e
 
   -- The field that a reader makes of the first word.
   module _ (limit : ℕ) where
-    pub field-missing : length content ≤ start → FieldRead content at limit (FieldWrong NotFour)
-    field-missing h = record { reads = λ limits. ap (readNumbers (limit ∷ limits)) (no-word h); within = tt }
+    pub field-missing : length content ≤ start → FieldRead content at limit (FieldWrong NotFourOrFive)
+    field-missing h = record { reads = λ limits optional. ap (readNumbers (limit ∷ limits) optional) (no-word h); within = tt }
 
     module _ (room : at ≤ length content) (h : start < length content) (end : ℕ) (e : end ≡ start + length (before (isMark Blank) (drop start content)))
         (word : WordAnswer) (read : word ≡ numberOf limit (take (end - start) (drop start content))) where
-      step : (limits : List ℕ) → readNumbers (limit ∷ limits) (words (drop at content)) ≡ wordThen word (readNumbers limits (words (drop end content)))
-      step limits = ap (readNumbers (limit ∷ limits)) (next-word room h end e) ∙ ap (λ (w : WordAnswer). wordThen w (readNumbers limits (words (drop end content)))) (sym read)
+      step : (limits optional : List ℕ)
+          → readNumbers (limit ∷ limits) optional (words (drop at content)) ≡ wordThen word (readNumbers limits optional (words (drop end content)))
+      step limits optional =
+          ap (readNumbers (limit ∷ limits) optional) (next-word room h end e)
+          ∙ ap (λ (w : WordAnswer). wordThen w (readNumbers limits optional (words (drop end content)))) (sym read)
 
       pub field-number : (n : ℕ) → word ≡ Number n → FieldRead content at limit (FieldNumber n end)
       field-number n f = record {
-        reads = λ limits. step limits ∙ ap (λ (w : WordAnswer). wordThen w (readNumbers limits (words (drop end content)))) f;
+        reads = λ limits optional. step limits optional ∙ ap (λ (w : WordAnswer). wordThen w (readNumbers limits optional (words (drop end content)))) f;
         within = (number-small limit (take (end - start) (drop start content)) n (sym read ∙ f), omega (arith, e, before-within (isMark Blank) content start (omega arith)));
       }
 
       pub field-wrong : (fault : Fault) → word ≡ Wrong fault → FieldRead content at limit (FieldWrong fault)
       field-wrong fault f = record {
-        reads = λ limits. step limits ∙ ap (λ (w : WordAnswer). wordThen w (readNumbers limits (words (drop end content)))) f;
+        reads = λ limits optional. step limits optional ∙ ap (λ (w : WordAnswer). wordThen w (readNumbers limits optional (words (drop end content)))) f;
         within = tt;
       }
 
 -- A line with a word is that of its numbers.
 pub some-words : (content : List ℕ) (start : ℕ) → start ≡ 0 + length (before (isMark Word) content) → start < length content
-    → contentLine content ≡ numbersLine (readNumbers fieldLimits (words content))
+    → contentLine content ≡ numbersLine (readNumbers fieldLimits delayLimits (words content))
 some-words content start found h =
     let e = next-word content 0 start found (omega arith) h (start + length (before (isMark Blank) (drop start content))) refl in
     rw e
 
 -- The words after a field that was read.
-pub field-then : {content : List ℕ} {at limit : ℕ} {r : FieldAnswer} {n next : ℕ} → FieldRead content at limit r → r ≡ FieldNumber n next → (limits : List ℕ)
-    → readNumbers (limit ∷ limits) (words (drop at content)) ≡ wordThen (Number n) (readNumbers limits (words (drop next content)))
-field-then {content} read e limits = read .reads limits ∙ ap (fieldThen content limits) e
+pub field-then : {content : List ℕ} {at limit : ℕ} {r : FieldAnswer} {n next : ℕ} → FieldRead content at limit r → r ≡ FieldNumber n next → (limits optional : List ℕ)
+    → readNumbers (limit ∷ limits) optional (words (drop at content)) ≡ wordThen (Number n) (readNumbers limits optional (words (drop next content)))
+field-then {content} read e limits optional = read .reads limits optional ∙ ap (fieldThen content limits optional) e
 
-pub field-fault : {content : List ℕ} {at limit : ℕ} {r : FieldAnswer} {fault : Fault} → FieldRead content at limit r → r ≡ FieldWrong fault → (limits : List ℕ)
-    → readNumbers (limit ∷ limits) (words (drop at content)) ≡ wrong fault
-field-fault {content} read e limits = read .reads limits ∙ ap (fieldThen content limits) e
+pub field-fault : {content : List ℕ} {at limit : ℕ} {r : FieldAnswer} {fault : Fault} → FieldRead content at limit r → r ≡ FieldWrong fault → (limits optional : List ℕ)
+    → readNumbers (limit ∷ limits) optional (words (drop at content)) ≡ wrong fault
+field-fault {content} read e limits optional = read .reads limits optional ∙ ap (fieldThen content limits optional) e
 
 pub field-within : {content : List ℕ} {at limit : ℕ} {r : FieldAnswer} {n next : ℕ} → FieldRead content at limit r → r ≡ FieldNumber n next → (n ≤ limit) × (next ≤ length content)
 field-within {content} {at} {limit} read e = subst (FieldWithin content limit) e (read .within)

@@ -1,6 +1,6 @@
--- Job lists as text: one job per line as `id cost period deadline` in decimal, blanks between, `#` starts a comment; and what
--- reading such a list comes to. Assumes nothing.
-use Prim.Native.Nat.{ℕ, _+_, _-_, _*_, _≤_}
+-- Job lists as text: one job per line as `id cost period deadline delay` in decimal, blanks between, `#` starts a comment; a delay of 0
+-- may be left out; and what reading such a list comes to. Assumes nothing.
+use Prim.Native.Nat.{ℕ, zero, suc, _+_, _-_, _*_, _≤_}
 use mathlib.Core.Path.{_≡_}
 use mathlib.Core.Bool.{Bool, true, cond, not, _&&_, _||_}
 use mathlib.Core.List.{List, [], _∷_, _++_}
@@ -12,7 +12,7 @@ use Rattle.records.specs.Jobs.{jobTable}
 use Rattle.records.specs.declared.job.Job.{Job}
 use Rattle.text.specs.Lines.{space, lineFeed, digit, decimal}
 use Rattle.text.specs.declared.fault.Fault.{Fault}
-use Rattle.text.specs.declared.fault.Fault.the-variants.{NotANumber, TooLarge, NotFour, TooMany}
+use Rattle.text.specs.declared.fault.Fault.the-variants.{NotANumber, TooLarge, NotFourOrFive, TooMany}
 use Rattle.text.specs.declared.words.Mark.{Mark}
 use Rattle.text.specs.declared.words.Mark.the-variants.{LineEnd, Comment, Blank, Word}
 use Rattle.text.specs.declared.words.WordAnswer.{WordAnswer}
@@ -107,12 +107,14 @@ wordThen (Number n) (numbers others) = numbers (n ∷ others)
 wordThen (Number n) (wrong fault) = wrong fault
 wordThen (Wrong fault) others = wrong fault
 
--- As many words as limits, each a number of at most its limit. The first faulty word decides, then the number of words.
-abbrev pub readNumbers : List ℕ → List (List ℕ) → Numbers
-readNumbers [] [] = numbers []
-readNumbers [] (word ∷ rest) = wrong NotFour
-readNumbers (limit ∷ limits) [] = wrong NotFour
-readNumbers (limit ∷ limits) (word ∷ rest) = wordThen (numberOf limit word) (readNumbers limits rest)
+-- As many words as limits, each a number of at most its limit, and after them at most as many words as optional limits. The first faulty
+-- word decides, then the number of words.
+abbrev pub readNumbers : List ℕ → List ℕ → List (List ℕ) → Numbers
+readNumbers [] optional [] = numbers []
+readNumbers [] [] (word ∷ rest) = wrong NotFourOrFive
+readNumbers [] (limit ∷ optional) (word ∷ rest) = wordThen (numberOf limit word) (readNumbers [] optional rest)
+readNumbers (limit ∷ limits) optional [] = wrong NotFourOrFive
+readNumbers (limit ∷ limits) optional (word ∷ rest) = wordThen (numberOf limit word) (readNumbers limits optional rest)
 
 -- ---- a line
 
@@ -120,14 +122,19 @@ readNumbers (limit ∷ limits) (word ∷ rest) = wordThen (numberOf limit word) 
 abbrev pub fieldLimits : List ℕ
 fieldLimits = 255 ∷ 65535 ∷ 65535 ∷ 65535 ∷ []
 
+-- The largest delay, which may be missing.
+abbrev pub delayLimits : List ℕ
+delayLimits = 255 ∷ []
+
+-- The job of a line's numbers; a delay that is missing is 0.
 abbrev pub numbersLine : Numbers → LineAnswer
-numbersLine (numbers n) = Found (record { id = getD n 0 0; cost = getD n 1 0; period = getD n 2 0; deadline = getD n 3 0 })
+numbersLine (numbers n) = Found (record { id = getD n 0 0; delay = getD n 4 0; cost = getD n 1 0; period = getD n 2 0; deadline = getD n 3 0 })
 numbersLine (wrong fault) = LineWrong fault
 
--- A line of these words: without words it is skipped, else it has to be one job's four numbers.
+-- A line of these words: without words it is skipped, else it has to be one job's four numbers, and its delay where it has one.
 abbrev pub wordsLine : List (List ℕ) → LineAnswer
 wordsLine [] = Skipped
-wordsLine (word ∷ rest) = numbersLine (readNumbers fieldLimits (word ∷ rest))
+wordsLine (word ∷ rest) = numbersLine (readNumbers fieldLimits delayLimits (word ∷ rest))
 
 abbrev pub contentLine : List ℕ → LineAnswer
 contentLine content = wordsLine (words content)
@@ -174,10 +181,16 @@ listOutcome r = (listAnswer (r .answer), r .table)
 
 -- ---- a list as it is written
 
--- A job's line: four numbers in decimal, one space between, and a line feed.
+-- A delay as it follows the deadline: a delay of 0 is left out.
+abbrev pub delayText : ℕ → List ℕ
+delayText zero = []
+delayText (suc delay) = space ∷ decimal (suc delay)
+
+-- A job's line: its numbers in decimal, one space between, and a line feed.
 abbrev pub jobText : Job → List ℕ
 jobText job =
-    decimal (job .id) ++ ((space ∷ decimal (job .cost)) ++ ((space ∷ decimal (job .period)) ++ ((space ∷ decimal (job .deadline)) ++ (lineFeed ∷ []))))
+    decimal (job .id)
+    ++ ((space ∷ decimal (job .cost)) ++ ((space ∷ decimal (job .period)) ++ ((space ∷ decimal (job .deadline)) ++ (delayText (job .delay) ++ (lineFeed ∷ [])))))
 
 unfoldable pub listText : List Job → List ℕ
 listText jobs = flat jobText jobs
@@ -185,14 +198,15 @@ listText jobs = flat jobText jobs
 -- The numbers of each job fit its record.
 abbrev pub FieldsFit : List Job → Type 0
 FieldsFit [] = Unit {0}
-FieldsFit (job ∷ jobs) = (job .id ≤ 255) × (job .cost ≤ 65535) × (job .period ≤ 65535) × (job .deadline ≤ 65535) × FieldsFit jobs
+FieldsFit (job ∷ jobs) =
+    (job .id ≤ 255) × (job .delay ≤ 255) × (job .cost ≤ 65535) × (job .period ≤ 65535) × (job .deadline ≤ 65535) × FieldsFit jobs
 
 -- ---- what the parts of the reader promise
 
 -- The numbers of the words from a field on.
-abbrev pub fieldThen : List ℕ → List ℕ → FieldAnswer → Numbers
-fieldThen content limits (FieldNumber n next) = wordThen (Number n) (readNumbers limits (words (drop next content)))
-fieldThen content limits (FieldWrong fault) = wrong fault
+abbrev pub fieldThen : List ℕ → List ℕ → List ℕ → FieldAnswer → Numbers
+fieldThen content limits optional (FieldNumber n next) = wordThen (Number n) (readNumbers limits optional (words (drop next content)))
+fieldThen content limits optional (FieldWrong fault) = wrong fault
 
 -- The number is at most its limit, and the place after it is in the line.
 abbrev pub FieldWithin : List ℕ → ℕ → FieldAnswer → Type 0
@@ -201,8 +215,14 @@ FieldWithin content limit (FieldWrong fault) = Unit {0}
 
 -- The first word from `at` on was read, whatever the limits of the words after it.
 pub record FieldRead (content : List ℕ) (at limit : ℕ) (r : FieldAnswer) : Type 0 where
-  pub reads : (limits : List ℕ) → readNumbers (limit ∷ limits) (words (drop at content)) ≡ fieldThen content limits r
+  pub reads : (limits optional : List ℕ) → readNumbers (limit ∷ limits) optional (words (drop at content)) ≡ fieldThen content limits optional r
   pub within : FieldWithin content limit r
+
+-- A line of four numbers that were read and the words after them.
+abbrev pub delayLine : ℕ → ℕ → ℕ → ℕ → List (List ℕ) → LineAnswer
+delayLine id cost period deadline rest =
+    numbersLine
+    (wordThen (Number id) (wordThen (Number cost) (wordThen (Number period) (wordThen (Number deadline) (readNumbers [] delayLimits rest)))))
 
 -- The fault of a field; NotANumber where there is none.
 abbrev pub faultOf : FieldAnswer → Fault

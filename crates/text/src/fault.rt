@@ -11,7 +11,7 @@ use crate::buffer;
 pub enum Fault {
     NotANumber,
     TooLarge,
-    NotFour,
+    NotFourOrFive,
     TooMany,
 }
 
@@ -19,16 +19,24 @@ pub enum Fault {
 pub const SIZE: usize = 80;
 
 fn put_message(output: &mut [u8], at: usize, fault: Fault) -> usize
-    requires { ⌜ at + 48 ≤ length (now output) ⌝ }
-    ensures { λ r. ⌜ Wrote 48 (now (output .entry)) (now (output .exit)) at r (message fault) ⌝ }
+    requires { ⌜ at + 60 ≤ length (now output) ⌝ }
+    ensures { λ r. ⌜ Wrote 60 (now (output .entry)) (now (output .exit)) at r (message fault) ⌝ }
 {
     match fault {
         Fault::NotANumber => buffer::put_text(output, at, b"a word is not a number"),
         Fault::TooLarge => {
-            buffer::put_text(output, at, b"an id is above 255 or a number above 65535")
+            buffer::put_text(
+                output,
+                at,
+                b"an id or a delay is above 255 or a number above 65535",
+            )
         }
-        Fault::NotFour => {
-            buffer::put_text(output, at, b"not four numbers: id cost period deadline")
+        Fault::NotFourOrFive => {
+            buffer::put_text(
+                output,
+                at,
+                b"not four numbers, or five: id cost period deadline delay",
+            )
         }
         Fault::TooMany => buffer::put_text(output, at, b"more than 8 jobs"),
     }

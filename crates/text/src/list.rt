@@ -1,8 +1,9 @@
-// Reads job lists as text: one job per line, `id cost period deadline` in decimal, blanks between, `#` starts a comment.
+// Reads job lists as text: one job per line, `id cost period deadline delay` in decimal, blanks between, `#` starts a comment. A delay of
+// 0 may be left out.
 ghost use mathlib.Core.Path.{_≡_};
 ghost use Prim.Native.Nat.{_+_, _≤_};
 ghost use lib.ListN.{length, drop};
-ghost use Rattle.text.specs.Lists.{FieldRead, faultOf, contentLine, readLine, faultyAt, ListsOn, listOutcome, readList};
+ghost use Rattle.text.specs.Lists.{FieldRead, faultOf, words, delayLine, contentLine, readLine, faultyAt, ListsOn, listOutcome, readList};
 use crate::fault::Fault;
 use crate::words;
 use crate::words::Mark;
@@ -34,8 +35,8 @@ pub struct ListRead {
     pub table: [Job; Job::MOST],
 }
 
-// What an id and what another number of a record can hold.
-const LARGEST_ID: u16 = 255;
+// What an id or a delay and what another number of a record can hold.
+const LARGEST_BYTE: u16 = 255;
 
 const LARGEST: u16 = 65535;
 
@@ -46,7 +47,7 @@ fn read_field(content: &[u8], at: usize, limit: u16) -> FieldAnswer
 {
     let start = words::find(Mark::Word, content, at);
     if start == content.len() {
-        return FieldAnswer::Wrong(Fault::NotFour);
+        return FieldAnswer::Wrong(Fault::NotFourOrFive);
     }
     let end = words::find(Mark::Blank, content, start);
     let number = words::read_number(&content[start..end], limit);
@@ -66,6 +67,43 @@ fn fault_of(field: FieldAnswer) -> Fault
     }
 }
 
+// The job of a line whose first four numbers were read up to a place: after them stands its delay, or no word.
+fn with_delay(
+    content: &[u8],
+    at: usize,
+    id: u8,
+    cost: u16,
+    period: u16,
+    deadline: u16,
+) -> LineAnswer
+    requires { ⌜ at ≤ length (now content) ⌝ }
+    ensures { λ r. ⌜ r ≡ delayLine id cost period deadline (words (drop at (now (content .entry)))) ⌝ }
+{
+    if words::find(Mark::Word, content, at) == content.len() {
+        return LineAnswer::Found(Job {
+            id,
+            delay: 0,
+            cost,
+            period,
+            deadline,
+        });
+    }
+    let fifth = read_field(content, at, LARGEST_BYTE);
+    let FieldAnswer::Number(delay, after_delay) = fifth else {
+        return LineAnswer::Wrong(fault_of(fifth));
+    };
+    if words::find(Mark::Word, content, after_delay) < content.len() {
+        return LineAnswer::Wrong(Fault::NotFourOrFive);
+    }
+    LineAnswer::Found(Job {
+        id,
+        delay: delay as u8,
+        cost,
+        period,
+        deadline,
+    })
+}
+
 // A line without its comment.
 fn read_content(content: &[u8]) -> LineAnswer
     ensures { λ r. ⌜ r ≡ contentLine (now (content .entry)) ⌝ }
@@ -73,7 +111,7 @@ fn read_content(content: &[u8]) -> LineAnswer
     if words::find(Mark::Word, content, 0) == content.len() {
         return LineAnswer::Skipped;
     }
-    let first = read_field(content, 0, LARGEST_ID);
+    let first = read_field(content, 0, LARGEST_BYTE);
     let FieldAnswer::Number(id, after_id) = first else {
         return LineAnswer::Wrong(fault_of(first));
     };
@@ -89,15 +127,7 @@ fn read_content(content: &[u8]) -> LineAnswer
     let FieldAnswer::Number(deadline, after_deadline) = fourth else {
         return LineAnswer::Wrong(fault_of(fourth));
     };
-    if words::find(Mark::Word, content, after_deadline) < content.len() {
-        return LineAnswer::Wrong(Fault::NotFour);
-    }
-    LineAnswer::Found(Job {
-        id: id as u8,
-        cost,
-        period,
-        deadline,
-    })
+    with_delay(content, after_deadline, id as u8, cost, period, deadline)
 }
 
 fn read_line(line: &[u8]) -> LineAnswer

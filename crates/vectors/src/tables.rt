@@ -14,6 +14,7 @@ fn job_at(block: &[u8], at: usize) -> Job {
     }
     Job {
         id: block[at],
+        delay: block[at + 1],
         cost: word_of(block[at + 2], block[at + 3]),
         period: word_of(block[at + 4], block[at + 5]),
         deadline: word_of(block[at + 6], block[at + 7]),
@@ -60,6 +61,7 @@ pub fn job_bytes(jobs: [Job; ROOM]) -> [u8; TABLE] {
         let job = jobs[i];
         let at = Job::SIZE * i;
         bytes[at] = job.id;
+        bytes[at + 1] = job.delay;
         bytes[at + 2] = (job.cost / 256) as u8;
         bytes[at + 3] = (job.cost % 256) as u8;
         bytes[at + 4] = (job.period / 256) as u8;

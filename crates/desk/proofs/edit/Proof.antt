@@ -178,9 +178,11 @@ module _ {M : Type 1} (𝓤 : URA M) (H : Heap 𝓤) (A : Atoms 𝓤) (W : Given
     abbrev zs : List Job
     zs = set ys i j′
 
-    -- what putting the element back asks: the numbers fit, and the id is the old one
+    -- what putting the element back asks: the numbers fit, and the id and the delay are the old ones
     made : Is J j (LL.vals T.the-type T′.the-laws j) → Is J j′ (T′.lowered j′ ∷ [])
-    made was = LL.owes T.the-type T′.the-laws j′ (LL.owed T.the-type T′.the-laws j (LL.vals T.the-type T′.the-laws j) was .0, ((refl, fit .cost), ((refl, fit .period), ((refl, fit .deadline), tt))))
+    made was =
+        let old = LL.owed T.the-type T′.the-laws j (LL.vals T.the-type T′.the-laws j) was in
+        LL.owes T.the-type T′.the-laws j′ (old .0, (old .1 .0, ((refl, fit .cost), ((refl, fit .period), ((refl, fit .deadline), tt)))))
 
     offset-fits : Within (length ys) i → Fits w64 (i * 8)
     offset-fits ok = record { fits = omega arith }
@@ -200,9 +202,9 @@ module _ {M : Type 1} (𝓤 : URA M) (H : Heap 𝓤) (A : Atoms 𝓤) (W : Given
               assigns ! (bin ! (load ! (from ! (fld ! refl (stop !))) (look-in ! 25 (sub ! 0 refl (whole !)))) (load ! (from ! (stop !)) (look ! 9 refl)) tt) (from ! (stop !)) (init ! 7 refl (tt, tt)) $
               rewrite ! 7 (λ (p : ℕ). ‵ (fat fullShare tyPtr l₁₀ 0 (vptr b p))) (sym (place-is 8 o i)) refl $
               assigns ! (addr ! (from ! (hop ! (look ! 7 refl) (stop !)))) (from ! (stop !)) (init ! 13 refl (tt, tt)) $
-              assigns ! (of-opd ! (load ! (from ! (stop !)) (look ! 21 refl))) (from ! (hop ! (look ! 13 refl) (fld ! refl (stop !)))) (store-in ! 0 (sub ! 1 refl (whole !)) (tt, record { fits = fit .cost })) $
-              assigns ! (of-opd ! (load ! (from ! (stop !)) (look ! 19 refl))) (from ! (hop ! (look ! 13 refl) (fld ! refl (stop !)))) (store-in ! 0 (sub ! 2 refl (whole !)) (tt, record { fits = fit .period })) $
-              assigns-last ! (of-opd ! (load ! (from ! (stop !)) (look ! 17 refl))) (from ! (hop ! (look ! 13 refl) (fld ! refl (stop !)))) (store-in ! 0 (sub ! 3 refl (whole !)) (tt, record { fits = fit .deadline })) $
+              assigns ! (of-opd ! (load ! (from ! (stop !)) (look ! 21 refl))) (from ! (hop ! (look ! 13 refl) (fld ! refl (stop !)))) (store-in ! 0 (sub ! 2 refl (whole !)) (tt, record { fits = fit .cost })) $
+              assigns ! (of-opd ! (load ! (from ! (stop !)) (look ! 19 refl))) (from ! (hop ! (look ! 13 refl) (fld ! refl (stop !)))) (store-in ! 0 (sub ! 3 refl (whole !)) (tt, record { fits = fit .period })) $
+              assigns-last ! (of-opd ! (load ! (from ! (stop !)) (look ! 17 refl))) (from ! (hop ! (look ! 13 refl) (fld ! refl (stop !)))) (store-in ! 0 (sub ! 4 refl (whole !)) (tt, record { fits = fit .deadline })) $
               exec ! C Λ E m.t-4 (atRet E Post) $
               move ! (1 ∷ []) $ drop ! $ owned ! J (Is J) (LL.makes T.the-type T′.the-plain 𝓤 H A) j′ _ (made was) $ move ! (1 ∷ 0 ∷ []) $
               elem-put ! J fullShare ys i j′ (T′.lowered j′ ∷ []) b o (ok .within) $ closes-slice ! tt J ys zs (length-set ys i j′) b o $

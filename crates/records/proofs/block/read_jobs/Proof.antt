@@ -1,13 +1,12 @@
 use Prim.Native.Nat.{ℕ, _≤_, _*_}
 use mathlib.Core.Path.{_≡_, sym, ap, _∙_}
-use mathlib.Core.List.{List, [], _∷_}
+use mathlib.Core.List.{List, []}
 use native.Mathlib.Omega.{arith}
 use lib.ListN.{length}
-use borrow.Author.Tests.{not-true, not-false, leb-true}
-use Rattle.sets.specs.Places.{every}
+use borrow.Author.Tests.{leb-true}
 use Rattle.records.specs.Limits.{mostJobs}
 use Rattle.records.specs.Refusals.{Tests, verdict, answer, outcome}
-use Rattle.records.specs.Jobs.{jobSize, jobTable, sizeTests, secondZero, jobTests, jobCount, jobList, readJobs}
+use Rattle.records.specs.Jobs.{jobSize, jobTable, sizeTests, jobTests, jobCount, jobList, readJobs}
 use Rattle.records.specs.declared.job.Job.{Job}
 use Rattle.records.proofs.Outcomes.{turned-by, passed-by, judged-accepts}
 use Rattle.records.proofs.JobTests.{tests-table}
@@ -17,7 +16,7 @@ use Rattle.records.proofs.block.read_jobs.Tie as tie
 
 -- The tests after those of the size.
 abbrev recordTests : List ℕ → Tests
-recordTests s = (every (secondZero s) (jobCount s), 2) ∷ jobTests (jobCount s) (jobList s)
+recordTests s = jobTests (jobCount s) (jobList s)
 
 judge-size-requires : tie.Need-judge-size-requires
 judge-size-requires c κs = search needs
@@ -53,30 +52,18 @@ module _ (c : tie.After-enum-told) where
 enum-told : tie.Need-enum-told
 enum-told c = search needs
 
-seconds-zero-requires : tie.Need-seconds-zero-requires
-seconds-zero-requires c κs = search needs
-
-jobs-refused-requires-2 : tie.Need-jobs-refused-requires-2
-jobs-refused-requires-2 c κs = search needs
-
-returns-2 : tie.Need-returns-2
-returns-2 c = c .jobs-refused2 .ensures ∙ sym (on (c .before .before .before) ∙ simp (sym (c .before .before .seconds-zero .ensures) ∙ not-true _ (c .before .if1 .taken)))
-
 decode-requires : tie.Need-decode-requires
-decode-requires c κs = omega (arith, most (c .before .before))
+decode-requires c κs = omega (arith, most c)
 
 judge-jobs-requires : tie.Need-judge-jobs-requires
-judge-jobs-requires c κs = omega (arith, most (c .before .before .before))
+judge-jobs-requires c κs = omega (arith, most (c .before))
 
--- Past the second bytes: what was judged are the jobs of the block.
+-- What was judged are the jobs of the block.
 module _ (c : tie.After-judge-jobs) where
   abbrev p : tie.After-enum-told
-  p = c .before .before .before .before
+  p = c .before .before
 
-  on2 : readJobs (block p) ≡ outcome (jobTests (jobCount (block p)) (jobList (block p))) (jobCount (block p)) (jobTable (jobList (block p))) (jobTable [])
-  on2 = on p ∙ simp (sym (c .before .before .before .seconds-zero .ensures) ∙ not-false _ (c .before .before .if1 .left))
-
-  judged : verdict (c .judge-jobs .result) ≡ answer (jobTests (jobCount (block p)) (jobList (block p))) tt
+  judged : verdict (c .judge-jobs .result) ≡ answer (recordTests (block p)) tt
   judged =
       c .judge-jobs .ensures
       ∙ ap (λ (t : List Job). answer (jobTests (jobCount (block p)) t) tt) (c .before .decode .ensures)
@@ -85,25 +72,25 @@ module _ (c : tie.After-judge-jobs) where
 enum-known-judged : tie.Need-enum-known-judged
 enum-known-judged c = search needs
 
-jobs-refused-requires-3 : tie.Need-jobs-refused-requires-3
-jobs-refused-requires-3 c κs = search needs
+jobs-refused-requires-2 : tie.Need-jobs-refused-requires-2
+jobs-refused-requires-2 c κs = search needs
 
-returns-3 : tie.Need-returns-3
-returns-3 c =
+returns-2 : tie.Need-returns-2
+returns-2 c =
     let q = c .before .before .before .before in
     let s = block (p q) in
-    c .jobs-refused3 .ensures
-    ∙ sym (on2 q ∙ turned-by (jobTests (jobCount s) (jobList s)) [] (jobCount s) (jobTable (jobList s)) (jobTable []) _ (judged q) _ (c .before .before .judged .given .1))
+    c .jobs-refused2 .ensures
+    ∙ sym (on (p q) ∙ turned-by (recordTests s) [] (jobCount s) (jobTable (jobList s)) (jobTable []) _ (judged q) _ (c .before .before .judged .given .1))
 
 enum-told-2 : tie.Need-enum-told-2
 enum-told-2 c = search needs
 
-returns-4 : tie.Need-returns-4
-returns-4 c =
+returns-3 : tie.Need-returns-3
+returns-3 c =
     let q = c .before .before in
     let s = block (p q) in
     rw (q .before .decode .ensures)
-    (sym (on2 q ∙ passed-by (jobTests (jobCount s) (jobList s)) [] (jobCount s) (jobTable (jobList s)) (jobTable []) _ (judged q) (c .enum-told2 .given .1)))
+    (sym (on (p q) ∙ passed-by (recordTests s) [] (jobCount s) (jobTable (jobList s)) (jobTable []) _ (judged q) (c .enum-told2 .given .1)))
 
 pub read-jobs-spec : {M : Type 1} → statement M
 read-jobs-spec =
@@ -114,13 +101,10 @@ read-jobs-spec =
     jobs-refused-requires
     returns
     enum-told
-    seconds-zero-requires
-    jobs-refused-requires-2
-    returns-2
     decode-requires
     judge-jobs-requires
     enum-known-judged
-    jobs-refused-requires-3
-    returns-3
+    jobs-refused-requires-2
+    returns-2
     enum-told-2
-    returns-4)
+    returns-3)

@@ -6,6 +6,9 @@ use Rattle.records.proofs.bytes.get_job.Tie as tie
 shared-slice-read-t3 : tie.Need-shared-slice-read-t3
 shared-slice-read-t3 c = search needs
 
+shared-slice-read-t5 : tie.Need-shared-slice-read-t5
+shared-slice-read-t5 c = search needs
+
 shared-slice-read-word-of : tie.Need-shared-slice-read-word-of
 shared-slice-read-word-of c = search needs
 
@@ -42,6 +45,7 @@ get-job-spec =
     tie.close
     (tie.spec
     shared-slice-read-t3
+    shared-slice-read-t5
     shared-slice-read-word-of
     shared-slice-read-word-of-2
     word-of-requires

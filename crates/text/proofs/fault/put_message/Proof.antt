@@ -48,7 +48,7 @@ same-length c = search needs
 returns : tie.Need-returns
 returns c =
     let put = c .before .before in
-    retold (widened 48 (put .put-text .ensures) (omega arith)) (sym (ap message (put .before .before .before .enum-told .given .1)))
+    retold (widened 60 (put .put-text .ensures) (omega arith)) (sym (ap message (put .before .before .before .enum-told .given .1)))
 
 same-length-2 : tie.Need-same-length-2
 same-length-2 c = search needs
@@ -56,7 +56,7 @@ same-length-2 c = search needs
 returns-2 : tie.Need-returns-2
 returns-2 c =
     let put = c .before .before in
-    retold (widened 48 (put .put-text2 .ensures) (omega arith)) (sym (ap message (put .before .before .before .enum-told2 .given .1)))
+    retold (widened 60 (put .put-text2 .ensures) (omega arith)) (sym (ap message (put .before .before .before .enum-told2 .given .1)))
 
 same-length-3 : tie.Need-same-length-3
 same-length-3 c = search needs
@@ -64,7 +64,7 @@ same-length-3 c = search needs
 returns-3 : tie.Need-returns-3
 returns-3 c =
     let put = c .before .before in
-    retold (widened 48 (put .put-text3 .ensures) (omega arith)) (sym (ap message (put .before .before .before .enum-told3 .given .1)))
+    retold (widened 60 (put .put-text3 .ensures) (omega arith)) (sym (ap message (put .before .before .before .enum-told3 .given .1)))
 
 same-length-4 : tie.Need-same-length-4
 same-length-4 c = search needs
@@ -72,7 +72,7 @@ same-length-4 c = search needs
 returns-4 : tie.Need-returns-4
 returns-4 c =
     let put = c .before .before in
-    retold (widened 48 (put .put-text4 .ensures) (omega arith)) (sym (ap message (put .before .before .before .enum-told4 .given .1)))
+    retold (widened 60 (put .put-text4 .ensures) (omega arith)) (sym (ap message (put .before .before .before .enum-told4 .given .1)))
 
 pub put-message-spec : {M : Type 1} → statement M
 put-message-spec =

@@ -6,8 +6,8 @@ use lib.ListN.{length, drop}
 use Rattle.text.specs.declared.words.Mark.the-variants.{Word}
 use Rattle.text.specs.declared.words.WordAnswer.the-variants.{Number}
 use Rattle.text.specs.declared.list.LineAnswer.the-variants.{Wrong}
-use Rattle.text.specs.Lists.{isMark, words, Numbers, wordThen, readNumbers, fieldLimits, numbersLine, wordsLine, contentLine, faultOf}
-use Rattle.text.proofs.Parsing.{before-within, no-word, none-left, some-left, some-words, field-then, field-fault, field-within}
+use Rattle.text.specs.Lists.{isMark, words, Numbers, wordThen, readNumbers, fieldLimits, delayLimits, numbersLine, wordsLine, contentLine, faultOf}
+use Rattle.text.proofs.Parsing.{before-within, no-word, some-words, field-then, field-fault, field-within}
 use borrow.Author.Needs.{needs}
 use Rattle.text.proofs.list.read_content.Statement.{statement}
 use Rattle.text.proofs.list.read_content.Tie as tie
@@ -22,7 +22,7 @@ returns c = sym (ap wordsLine (no-word (c .before .before .before .args .content
 abbrev content : tie.Else1 → List ℕ
 content c = c .before .before .before .args .content .now
 
-on : (c : tie.Else1) → contentLine (content c) ≡ numbersLine (readNumbers fieldLimits (words (content c)))
+on : (c : tie.Else1) → contentLine (content c) ≡ numbersLine (readNumbers fieldLimits delayLimits (words (content c)))
 on c =
     some-words (content c) (c .before .find .result) (c .before .find .ensures)
     (omega (arith, c .before .find .ensures, before-within (isMark Word) (content c) 0 (omega arith)))
@@ -43,7 +43,7 @@ returns-2 : tie.Need-returns-2
 returns-2 c =
     let wrong = c .before .enum-told .given .1 in
     ap Wrong (c .fault-of .ensures ∙ ap faultOf wrong)
-    ∙ sym (on (c .before .before .before .before) ∙ ap numbersLine (field-fault (c .before .before .before .read-field .ensures) wrong (drop 1 fieldLimits)))
+    ∙ sym (on (c .before .before .before .before) ∙ ap numbersLine (field-fault (c .before .before .before .read-field .ensures) wrong (drop 1 fieldLimits) delayLimits))
 
 -- Past the first number.
 abbrev before-id : tie.After-known-told → tie.Else1
@@ -56,8 +56,8 @@ module _ (c : tie.After-known-told) where
   abbrev after-id : ℕ
   after-id = c .before .first .given .0 .1 .0
 
-  on-id : contentLine (content (before-id c)) ≡ numbersLine (wordThen (Number id) (readNumbers (drop 1 fieldLimits) (words (drop after-id (content (before-id c))))))
-  on-id = on (before-id c) ∙ ap numbersLine (field-then (c .before .before .before .read-field .ensures) (c .before .first .given .1) (drop 1 fieldLimits))
+  on-id : contentLine (content (before-id c)) ≡ numbersLine (wordThen (Number id) (readNumbers (drop 1 fieldLimits) delayLimits (words (drop after-id (content (before-id c))))))
+  on-id = on (before-id c) ∙ ap numbersLine (field-then (c .before .before .before .read-field .ensures) (c .before .first .given .1) (drop 1 fieldLimits) delayLimits)
 
   id-within : (id ≤ 255) × (after-id ≤ length (content (before-id c)))
   id-within = field-within (c .before .before .before .read-field .ensures) (c .before .first .given .1)
@@ -79,7 +79,7 @@ returns-3 c =
     let p = c .before .before .before .before in
     let wrong = c .before .enum-told2 .given .1 in
     ap Wrong (c .fault-of2 .ensures ∙ ap faultOf wrong)
-    ∙ sym (on-id p ∙ ap (λ (x : Numbers). numbersLine (wordThen (Number (id p)) x)) (field-fault (c .before .before .before .read-field2 .ensures) wrong (drop 2 fieldLimits)))
+    ∙ sym (on-id p ∙ ap (λ (x : Numbers). numbersLine (wordThen (Number (id p)) x)) (field-fault (c .before .before .before .read-field2 .ensures) wrong (drop 2 fieldLimits) delayLimits))
 
 -- Past the second number.
 abbrev before-cost : tie.After-known-told2 → tie.After-known-told
@@ -92,8 +92,8 @@ module _ (c : tie.After-known-told2) where
   abbrev after-cost : ℕ
   after-cost = c .before .second .given .0 .1 .0
 
-  on-cost : contentLine (content (before-id (before-cost c))) ≡ numbersLine (wordThen (Number (id (before-cost c))) (wordThen (Number cost) (readNumbers (drop 2 fieldLimits) (words (drop after-cost (content (before-id (before-cost c))))))))
-  on-cost = on-id (before-cost c) ∙ ap (λ (x : Numbers). numbersLine (wordThen (Number (id (before-cost c))) x)) (field-then (c .before .before .before .read-field2 .ensures) (c .before .second .given .1) (drop 2 fieldLimits))
+  on-cost : contentLine (content (before-id (before-cost c))) ≡ numbersLine (wordThen (Number (id (before-cost c))) (wordThen (Number cost) (readNumbers (drop 2 fieldLimits) delayLimits (words (drop after-cost (content (before-id (before-cost c))))))))
+  on-cost = on-id (before-cost c) ∙ ap (λ (x : Numbers). numbersLine (wordThen (Number (id (before-cost c))) x)) (field-then (c .before .before .before .read-field2 .ensures) (c .before .second .given .1) (drop 2 fieldLimits) delayLimits)
 
   cost-within : (cost ≤ 65535) × (after-cost ≤ length (content (before-id (before-cost c))))
   cost-within = field-within (c .before .before .before .read-field2 .ensures) (c .before .second .given .1)
@@ -115,7 +115,7 @@ returns-4 c =
     let p = c .before .before .before .before in
     let wrong = c .before .enum-told3 .given .1 in
     ap Wrong (c .fault-of3 .ensures ∙ ap faultOf wrong)
-    ∙ sym (on-cost p ∙ ap (λ (x : Numbers). numbersLine (wordThen (Number (id (before-cost p))) (wordThen (Number (cost p)) x))) (field-fault (c .before .before .before .read-field3 .ensures) wrong (drop 3 fieldLimits)))
+    ∙ sym (on-cost p ∙ ap (λ (x : Numbers). numbersLine (wordThen (Number (id (before-cost p))) (wordThen (Number (cost p)) x))) (field-fault (c .before .before .before .read-field3 .ensures) wrong (drop 3 fieldLimits) delayLimits))
 
 -- Past the third number.
 abbrev before-period : tie.After-known-told3 → tie.After-known-told2
@@ -128,8 +128,8 @@ module _ (c : tie.After-known-told3) where
   abbrev after-period : ℕ
   after-period = c .before .third .given .0 .1 .0
 
-  on-period : contentLine (content (before-id (before-cost (before-period c)))) ≡ numbersLine (wordThen (Number (id (before-cost (before-period c)))) (wordThen (Number (cost (before-period c))) (wordThen (Number period) (readNumbers (drop 3 fieldLimits) (words (drop after-period (content (before-id (before-cost (before-period c))))))))))
-  on-period = on-cost (before-period c) ∙ ap (λ (x : Numbers). numbersLine (wordThen (Number (id (before-cost (before-period c)))) (wordThen (Number (cost (before-period c))) x))) (field-then (c .before .before .before .read-field3 .ensures) (c .before .third .given .1) (drop 3 fieldLimits))
+  on-period : contentLine (content (before-id (before-cost (before-period c)))) ≡ numbersLine (wordThen (Number (id (before-cost (before-period c)))) (wordThen (Number (cost (before-period c))) (wordThen (Number period) (readNumbers (drop 3 fieldLimits) delayLimits (words (drop after-period (content (before-id (before-cost (before-period c))))))))))
+  on-period = on-cost (before-period c) ∙ ap (λ (x : Numbers). numbersLine (wordThen (Number (id (before-cost (before-period c)))) (wordThen (Number (cost (before-period c))) x))) (field-then (c .before .before .before .read-field3 .ensures) (c .before .third .given .1) (drop 3 fieldLimits) delayLimits)
 
   period-within : (period ≤ 65535) × (after-period ≤ length (content (before-id (before-cost (before-period c)))))
   period-within = field-within (c .before .before .before .read-field3 .ensures) (c .before .third .given .1)
@@ -151,7 +151,7 @@ returns-5 c =
     let p = c .before .before .before .before in
     let wrong = c .before .enum-told4 .given .1 in
     ap Wrong (c .fault-of4 .ensures ∙ ap faultOf wrong)
-    ∙ sym (on-period p ∙ ap (λ (x : Numbers). numbersLine (wordThen (Number (id (before-cost (before-period p)))) (wordThen (Number (cost (before-period p))) (wordThen (Number (period p)) x)))) (field-fault (c .before .before .before .read-field4 .ensures) wrong (drop 4 fieldLimits)))
+    ∙ sym (on-period p ∙ ap (λ (x : Numbers). numbersLine (wordThen (Number (id (before-cost (before-period p)))) (wordThen (Number (cost (before-period p))) (wordThen (Number (period p)) x)))) (field-fault (c .before .before .before .read-field4 .ensures) wrong (drop 4 fieldLimits) delayLimits))
 
 -- Past the fourth number.
 abbrev before-deadline : tie.After-known-told4 → tie.After-known-told3
@@ -164,29 +164,20 @@ module _ (c : tie.After-known-told4) where
   abbrev after-deadline : ℕ
   after-deadline = c .before .fourth .given .0 .1 .0
 
-  on-deadline : contentLine (content (before-id (before-cost (before-period (before-deadline c))))) ≡ numbersLine (wordThen (Number (id (before-cost (before-period (before-deadline c))))) (wordThen (Number (cost (before-period (before-deadline c)))) (wordThen (Number (period (before-deadline c))) (wordThen (Number deadline) (readNumbers (drop 4 fieldLimits) (words (drop after-deadline (content (before-id (before-cost (before-period (before-deadline c))))))))))))
-  on-deadline = on-period (before-deadline c) ∙ ap (λ (x : Numbers). numbersLine (wordThen (Number (id (before-cost (before-period (before-deadline c))))) (wordThen (Number (cost (before-period (before-deadline c)))) (wordThen (Number (period (before-deadline c))) x)))) (field-then (c .before .before .before .read-field4 .ensures) (c .before .fourth .given .1) (drop 4 fieldLimits))
+  on-deadline : contentLine (content (before-id (before-cost (before-period (before-deadline c))))) ≡ numbersLine (wordThen (Number (id (before-cost (before-period (before-deadline c))))) (wordThen (Number (cost (before-period (before-deadline c)))) (wordThen (Number (period (before-deadline c))) (wordThen (Number deadline) (readNumbers (drop 4 fieldLimits) delayLimits (words (drop after-deadline (content (before-id (before-cost (before-period (before-deadline c))))))))))))
+  on-deadline = on-period (before-deadline c) ∙ ap (λ (x : Numbers). numbersLine (wordThen (Number (id (before-cost (before-period (before-deadline c))))) (wordThen (Number (cost (before-period (before-deadline c)))) (wordThen (Number (period (before-deadline c))) x)))) (field-then (c .before .before .before .read-field4 .ensures) (c .before .fourth .given .1) (drop 4 fieldLimits) delayLimits)
 
   deadline-within : (deadline ≤ 65535) × (after-deadline ≤ length (content (before-id (before-cost (before-period (before-deadline c))))))
   deadline-within = field-within (c .before .before .before .read-field4 .ensures) (c .before .fourth .given .1)
 
-find-requires-2 : tie.Need-find-requires-2
-find-requires-2 c κs = search needs
+cast-with-delay : tie.Need-cast-with-delay
+cast-with-delay c = omega (arith, id-within (before-cost (before-period (before-deadline c))) .0)
+
+with-delay-requires : tie.Need-with-delay-requires
+with-delay-requires c κs = deadline-within c .1
 
 returns-6 : tie.Need-returns-6
-returns-6 c =
-    let p = c .before .before in
-    let left = some-left (content (before-id (before-cost (before-period (before-deadline p))))) (after-deadline p) _ (c .before .find2 .ensures) (deadline-within p .1) (c .if2 .taken) in
-    sym (on-deadline p ∙ ap (λ (x : Numbers). numbersLine (wordThen (Number (id (before-cost (before-period (before-deadline p))))) (wordThen (Number (cost (before-period (before-deadline p)))) (wordThen (Number (period (before-deadline p))) (wordThen (Number (deadline p)) x))))) left)
-
-cast-t23 : tie.Need-cast-t23
-cast-t23 c = omega (arith, id-within (before-cost (before-period (before-deadline ((c .before .before))))) .0)
-
-returns-7 : tie.Need-returns-7
-returns-7 c =
-    let p = c .before .before in
-    let left = none-left (content (before-id (before-cost (before-period (before-deadline p))))) (after-deadline p) _ (c .before .find2 .ensures) (c .if2 .left) in
-    sym (on-deadline p ∙ ap (λ (x : Numbers). numbersLine (wordThen (Number (id (before-cost (before-period (before-deadline p))))) (wordThen (Number (cost (before-period (before-deadline p)))) (wordThen (Number (period (before-deadline p))) (wordThen (Number (deadline p)) x))))) left)
+returns-6 c = c .with-delay .ensures ∙ sym (on-deadline (c .before))
 
 pub read-content-spec : {M : Type 1} → statement M
 read-content-spec =
@@ -214,7 +205,6 @@ read-content-spec =
     enum-told-4
     fault-of-requires-4
     returns-5
-    find-requires-2
-    returns-6
-    cast-t23
-    returns-7)
+    cast-with-delay
+    with-delay-requires
+    returns-6)

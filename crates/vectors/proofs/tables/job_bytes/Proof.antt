@@ -24,17 +24,14 @@ mul-at c = search needs
 array-write-bytes : tie.Need-array-write-bytes Inv-loop μ-loop
 array-write-bytes c = search needs
 
-cast-bytes : tie.Need-cast-bytes Inv-loop μ-loop
-cast-bytes c = search needs
-
 add-bytes : tie.Need-add-bytes Inv-loop μ-loop
 add-bytes c = search needs
 
 array-write-bytes-2 : tie.Need-array-write-bytes-2 Inv-loop μ-loop
 array-write-bytes-2 c = search needs
 
-cast-bytes-2 : tie.Need-cast-bytes-2 Inv-loop μ-loop
-cast-bytes-2 c = search needs
+cast-bytes : tie.Need-cast-bytes Inv-loop μ-loop
+cast-bytes c = search needs
 
 add-bytes-2 : tie.Need-add-bytes-2 Inv-loop μ-loop
 add-bytes-2 c = search needs
@@ -42,8 +39,8 @@ add-bytes-2 c = search needs
 array-write-bytes-3 : tie.Need-array-write-bytes-3 Inv-loop μ-loop
 array-write-bytes-3 c = search needs
 
-cast-bytes-3 : tie.Need-cast-bytes-3 Inv-loop μ-loop
-cast-bytes-3 c = search needs
+cast-bytes-2 : tie.Need-cast-bytes-2 Inv-loop μ-loop
+cast-bytes-2 c = search needs
 
 add-bytes-3 : tie.Need-add-bytes-3 Inv-loop μ-loop
 add-bytes-3 c = search needs
@@ -51,8 +48,8 @@ add-bytes-3 c = search needs
 array-write-bytes-4 : tie.Need-array-write-bytes-4 Inv-loop μ-loop
 array-write-bytes-4 c = search needs
 
-cast-bytes-4 : tie.Need-cast-bytes-4 Inv-loop μ-loop
-cast-bytes-4 c = search needs
+cast-bytes-3 : tie.Need-cast-bytes-3 Inv-loop μ-loop
+cast-bytes-3 c = search needs
 
 add-bytes-4 : tie.Need-add-bytes-4 Inv-loop μ-loop
 add-bytes-4 c = search needs
@@ -60,8 +57,8 @@ add-bytes-4 c = search needs
 array-write-bytes-5 : tie.Need-array-write-bytes-5 Inv-loop μ-loop
 array-write-bytes-5 c = search needs
 
-cast-bytes-5 : tie.Need-cast-bytes-5 Inv-loop μ-loop
-cast-bytes-5 c = search needs
+cast-bytes-4 : tie.Need-cast-bytes-4 Inv-loop μ-loop
+cast-bytes-4 c = search needs
 
 add-bytes-5 : tie.Need-add-bytes-5 Inv-loop μ-loop
 add-bytes-5 c = search needs
@@ -69,14 +66,23 @@ add-bytes-5 c = search needs
 array-write-bytes-6 : tie.Need-array-write-bytes-6 Inv-loop μ-loop
 array-write-bytes-6 c = search needs
 
-cast-bytes-6 : tie.Need-cast-bytes-6 Inv-loop μ-loop
-cast-bytes-6 c = search needs
+cast-bytes-5 : tie.Need-cast-bytes-5 Inv-loop μ-loop
+cast-bytes-5 c = search needs
 
 add-bytes-6 : tie.Need-add-bytes-6 Inv-loop μ-loop
 add-bytes-6 c = search needs
 
 array-write-bytes-7 : tie.Need-array-write-bytes-7 Inv-loop μ-loop
 array-write-bytes-7 c = search needs
+
+cast-bytes-6 : tie.Need-cast-bytes-6 Inv-loop μ-loop
+cast-bytes-6 c = search needs
+
+add-bytes-7 : tie.Need-add-bytes-7 Inv-loop μ-loop
+add-bytes-7 c = search needs
+
+array-write-bytes-8 : tie.Need-array-write-bytes-8 Inv-loop μ-loop
+array-write-bytes-8 c = search needs
 
 add-i : tie.Need-add-i Inv-loop μ-loop
 add-i c = search needs
@@ -101,24 +107,26 @@ job-bytes-spec =
     array-copy-out-job
     mul-at
     array-write-bytes
-    cast-bytes
     add-bytes
     array-write-bytes-2
-    cast-bytes-2
+    cast-bytes
     add-bytes-2
     array-write-bytes-3
-    cast-bytes-3
+    cast-bytes-2
     add-bytes-3
     array-write-bytes-4
-    cast-bytes-4
+    cast-bytes-3
     add-bytes-4
     array-write-bytes-5
-    cast-bytes-5
+    cast-bytes-4
     add-bytes-5
     array-write-bytes-6
-    cast-bytes-6
+    cast-bytes-5
     add-bytes-6
     array-write-bytes-7
+    cast-bytes-6
+    add-bytes-7
+    array-write-bytes-8
     add-i
     loop-less
     loop-again
