@@ -65,6 +65,9 @@ cases =
     ∷ filled k7 (apart 1 2) true 6 23
     -- the example of E2: the neighbour of the first job has less work than quanta
     ∷ filled (row 1 0 4 20 20 ++ row 2 0 2 20 20) (shared 1 4) true 6 3
+    -- K7 with delays of the first job (E4): with 1 the second still has 23, with 2 the first counts a fourth time above it
+    ∷ filled (row 1 1 6 8 8 ++ row 2 0 5 23 23) (apart 1 2) true 7 23
+    ∷ filled (row 1 2 6 8 8 ++ row 2 0 5 23 23) (apart 1 2) false 8 0
     -- the largest quantum for everyone
     ∷ filled k2 (shared 4 4) false 0 13
     -- the larger number taken for the earlier level, in both senses

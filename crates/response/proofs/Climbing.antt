@@ -143,15 +143,15 @@ module _ (f : ℕ → ℕ) (d : ℕ) where
 
 -- ---- how the search starts
 
-module _ (w : Table) (above : Set) (left own d before : ℕ) where
-  pub time-idle : own ≡ 0 → timeFor w above left own d before ≡ timeFrom w above own d (max 1 before)
+module _ (w : Table) (above : Set) (left carry own d before : ℕ) where
+  pub time-idle : own ≡ 0 → timeFor w above left carry own d before ≡ timeFrom w above own d (max 1 before)
   unfolding timeFor
   time-idle e = rw (eq-eqb own 0 e)
 
-  pub time-full : (own ≡ 0 → ⊥) → left ≡ 0 → timeFor w above left own d before ≡ 0
+  pub time-full : (own ≡ 0 → ⊥) → left ≡ 0 → timeFor w above left carry own d before ≡ 0
   unfolding timeFor
   time-full e h = rw (ne-eqb own 0 e, eq-eqb left 0 h)
 
-  pub time-start : (own ≡ 0 → ⊥) → (left ≡ 0 → ⊥) → timeFor w above left own d before ≡ timeFrom w above own d (max (own * whole / left) before)
+  pub time-start : (own ≡ 0 → ⊥) → (left ≡ 0 → ⊥) → timeFor w above left carry own d before ≡ timeFrom w above own d (max ((own * whole + carry) / left) before)
   unfolding timeFor
   time-start e h = rw (ne-eqb own 0 e, ne-eqb left 0 h)

@@ -1,7 +1,7 @@
 -- Laws of division rounded up. Assumes nothing.
 use Prim.Native.Nat.{ℕ, zero, suc, _+_, _*_, _/_, _-_, _^_, _≤_, _<_, zero-le}
-use mathlib.Core.Path.{_≡_, _∙_}
-use native.Mathlib.Nat.{le-refl, le-trans, mul-le-mul, mul-le-mul-left, mul-le-mul-right, le-div-iff-mul-le, div-mul-le-self, div-zero, zero-lt-suc, lt-mul-div-succ, div-lt-iff-lt-mul, mul-comm, add-mul}
+use mathlib.Core.Path.{_≡_, refl, sym, _∙_}
+use native.Mathlib.Nat.{le-refl, le-trans, mul-le-mul, mul-le-mul-left, mul-le-mul-right, le-div-iff-mul-le, div-mul-le-self, div-zero, zero-lt-suc, lt-mul-div-succ, div-lt-iff-lt-mul, mul-comm, mul-assoc, add-mul}
 use native.Mathlib.Omega.{arith}
 use Rattle.response.specs.Demand.{ceilDiv}
 
@@ -41,14 +41,20 @@ ceil-le x (suc y) =
     let l : (x + (suc y - 1)) / suc y < x + 1 = div-lt-iff-lt-mul (zero-lt-suc y) .1 (omega arith) in
     omega arith
 
--- The quotient at t is at most t times the quotient at 1.
-pub ceil-one : (t y : ℕ) → ceilDiv t y ≤ t * ceilDiv 1 y
+-- No more than m times y are needed where m times y cover x.
+ceil-least : (x y m : ℕ) → 0 < y → x ≤ m * y → ceilDiv x y ≤ m
 unfolding ceilDiv
-ceil-one t zero = rw (div-zero, div-zero) (omega arith)
-ceil-one t (suc y) = le-trans (ceil-le t (suc y)) (omega (arith, mul-le-mul-left t one))
-  where
-    one : 1 ≤ (1 + (suc y - 1)) / suc y
-    one = le-div-iff-mul-le (zero-lt-suc y) .1 (omega arith)
+ceil-least x y m p h = let l : (x + (y - 1)) / y < m + 1 = div-lt-iff-lt-mul p .1 (omega (arith, add-mul m 1 y)) in omega arith
+
+-- The quotient at t is at most t + 1 times the quotient at 1, each with a delay.
+pub ceil-one : (t delay y : ℕ) → ceilDiv (t + delay) y ≤ suc t * ceilDiv (1 + delay) y
+ceil-one t delay zero = rw (ceil-zero (t + delay) 0 refl, ceil-zero (1 + delay) 0 refl) (omega arith)
+ceil-one t delay (suc y) =
+    let c = ceilDiv (1 + delay) (suc y) in
+    let once : suc t * (1 + delay) ≤ suc t * (c * suc y) = mul-le-mul-left (suc t) (ceil-covers (1 + delay) (suc y) (zero-lt-suc y)) in
+    let more : t * 1 ≤ t * (1 + delay) = mul-le-mul-left t (omega arith) in
+    let split : suc t * (1 + delay) ≡ 1 + delay + t * (1 + delay) = omega arith in
+    ceil-least (t + delay) (suc y) (suc t * c) (zero-lt-suc y) (omega (arith, sym (mul-assoc (suc t) c (suc y)), once, more, split))
 
 -- The product of a quotient and a 16-bit number.
 pub product-lt : (x y : ℕ) → x < 2 ^ 23 → y < 2 ^ 16 → x * y < 2 ^ 39

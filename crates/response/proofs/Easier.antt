@@ -3,9 +3,8 @@ use mathlib.Core.Path.{_≡_, refl, sym, _∙_, ap, ap₂, fun-ext}
 use mathlib.Core.Bool.{Bool, true, false, not, _&&_, _||_, and-eq-true-iff, false≢true}
 use mathlib.Core.Logic.{_↔_, _≢_}
 use mathlib.Core.List.{List}
-use Prim.Native.Nat.{ℕ, suc, _+_, _*_, _≤_, _<_}
+use Prim.Native.Nat.{ℕ, suc, _+_, _-_, _*_, _≤_, _<_}
 use native.Mathlib.Nat.{le-refl, mul-le-mul, mul-le-mul-right, mul-le-mul-left, mul-zero}
-use native.Mathlib.Decide.{ℕ-discrete}
 use native.Mathlib.Omega.{arith}
 use lib.Dec.{eqb}
 use lib.ListN.{length, getD, take}
@@ -16,10 +15,10 @@ use Rattle.sets.specs.Places.{sumOver}
 use Rattle.sets.proofs.Places.{over-mono, over-same, over-zero, over-cut, over-split}
 use Rattle.records.specs.Jobs.{blankJob, jobAt}
 use Rattle.records.specs.declared.job.Job.{Job}
-use Rattle.response.specs.Demand.{ceilDiv, work, interference, otherQuanta, layerShare, demand, least, oneInstanceBound, finish, Reached, none, larger, responseOf, run, mostInstances, largestResponse, firstBound, withNeighbours, only, secondBound, lesser, bound}
+use Rattle.response.specs.Demand.{ceilDiv, work, interference, otherQuanta, layerShare, demand, least, finish, plusDelay, none, run, mostInstances, largestResponse, firstBound, withNeighbours, only, secondBound, lesser, bound}
 use Rattle.response.proofs.Division.{ceil-mono, ceil-anti}
-use Rattle.response.proofs.Least.{Rising, least-found, served-exactly, sooner}
-use Rattle.response.proofs.Runs.{larger-max, run-none, run-closed, run-sooner}
+use Rattle.response.proofs.Least.{Rising, served-exactly, sooner}
+use Rattle.response.proofs.Runs.{plus-at-least, plus-from, plus-mono, run-sooner}
 use Rattle.response.proofs.Lesser.{lesser-none, lesser-same, lesser-serves}
 
 -- ---- interference
@@ -27,7 +26,8 @@ use Rattle.response.proofs.Lesser.{lesser-none, lesser-same, lesser-ser
 pub interference-mono : (jobs : List Job) (a b : Set) (t u : ℕ) → Sub (length jobs) a b → t ≤ u → interference jobs a t ≤ interference jobs b u
 unfolding interference work
 interference-mono jobs a b t u s h =
-    over-mono (length jobs) a b _ _ s (λ i l e. mul-le-mul-right (jobAt jobs i .cost) (ceil-mono t u (jobAt jobs i .period) h))
+    over-mono (length jobs) a b _ _ s
+    (λ i l e. let job = jobAt jobs i in mul-le-mul-right (job .cost) (ceil-mono (t + job .delay) (u + job .delay) (job .period) (omega arith)))
 
 -- The jobs of a set that pass a test, and the others.
 pub interference-split : (jobs : List Job) (a test : Set) (t : ℕ)
@@ -112,16 +112,30 @@ finish-sooner : (jobs : List Job) (k : ℕ) (q q′ : List ℕ) (s s′ a a′ :
     → (j : ℕ) → 0 < finish jobs q s a k j → (0 < finish jobs q′ s′ a′ k j) × (finish jobs q′ s′ a′ k j ≤ finish jobs q s a k j)
 unfolding finish demand
 finish-sooner jobs k q q′ s s′ a a′ p h ha j b =
-    let own = suc j * jobAt jobs k .cost in
-    sooner (demand jobs q s a k own) (demand jobs q′ s′ a′ k own) (rising jobs q′ s′ a′ k own (works (jobAt jobs k .cost) j p))
-    (λ t. omega (arith, h own, interference-mono jobs a′ a t t ha (le-refl t))) (j * jobAt jobs k .period + jobAt jobs k .deadline) b
+    let job = jobAt jobs k in
+    let own = suc j * job .cost in
+    sooner (demand jobs q s a k own) (demand jobs q′ s′ a′ k own) (rising jobs q′ s′ a′ k own (works (job .cost) j p))
+    (λ t. omega (arith, h own, interference-mono jobs a′ a t t ha (le-refl t))) (j * job .period + job .deadline - job .delay) b
+
+-- So is each finish plus the delay.
+late-sooner : (jobs : List Job) (k : ℕ) (q q′ : List ℕ) (s s′ a a′ : Set) → 0 < jobAt jobs k .cost
+    → Lighter (length jobs) k q s q′ s′ → Sub (length jobs) a′ a
+    → (j : ℕ) → let delay = jobAt jobs k .delay in
+    0 < plusDelay delay (finish jobs q s a k j)
+    → (0 < plusDelay delay (finish jobs q′ s′ a′ k j)) × (plusDelay delay (finish jobs q′ s′ a′ k j) ≤ plusDelay delay (finish jobs q s a k j))
+late-sooner jobs k q q′ s s′ a a′ p h ha j b =
+    let delay = jobAt jobs k .delay in
+    let old = finish jobs q s a k j in
+    let new = finish jobs q′ s′ a′ k j in
+    let w = finish-sooner jobs k q q′ s s′ a a′ p h ha j (plus-from delay old b) in
+    (omega (arith, w .0, plus-at-least delay new), plus-mono delay new old (w .0) (w .1))
 
 -- One of the two bounds, by its share and its set above.
 run-easier : (jobs : List Job) (k : ℕ) (q q′ : List ℕ) (s s′ a a′ : Set) → 0 < jobAt jobs k .cost
     → Lighter (length jobs) k q s q′ s′ → Sub (length jobs) a′ a → 0 < firstBound jobs q s a k → 0 < firstBound jobs q′ s′ a′ k
 unfolding largestResponse
 run-easier jobs k q q′ s s′ a a′ p h ha b =
-    run-sooner (finish jobs q s a k) (finish jobs q′ s′ a′ k) (jobAt jobs k .period) (finish-sooner jobs k q q′ s s′ a a′ p h ha)
+    run-sooner _ _ (jobAt jobs k .period) (late-sooner jobs k q q′ s s′ a a′ p h ha)
     mostInstances 0 none none (λ g. omega arith) b
 
 -- Fewer neighbours, counted as if they were above a smaller set above.
@@ -148,7 +162,9 @@ easier jobs k q q′ s s′ a a′ p h hs ha b =
 
 -- The bound of a job with a demand f for so much own work.
 abbrev boundFor : (ℕ → ℕ → ℕ) → Job → ℕ
-boundFor f job = run (λ j. least (f (suc j * job .cost)) (j * job .period + job .deadline) 1) (job .period) mostInstances 0 none .response
+boundFor f job =
+    run (λ j. plusDelay (job .delay) (least (f (suc j * job .cost)) (j * job .period + job .deadline - job .delay) 1)) (job .period) mostInstances 0 none
+    .response
 
 share-same : (jobs : List Job) (k : ℕ) (q q′ : List ℕ) (s s′ a a′ : Set)
     → ((own : ℕ) → layerShare (length jobs) q s k own ≡ layerShare (length jobs) q′ s′ k own)
@@ -251,31 +267,11 @@ bound-take n jobs q s a k h kn hs ha =
     (run-take n jobs q (only k) (withNeighbours s a k) k h kn (λ i l. ne-eqb i k (λ e. omega arith))
     (λ i l. ap₂ (λ (x y : Bool). x || (y && not (eqb i k))) (ha i l) (hs i l)))
 
--- ---- one instance
-
--- For a deadline up to the period the first bound is the one of 01.
-pub one-instance : (jobs : List Job) (q : List ℕ) (s a : Set) (k : ℕ) → jobAt jobs k .deadline ≤ jobAt jobs k .period
-    → firstBound jobs q s a k ≡ oneInstanceBound jobs q s a k
-unfolding largestResponse finish oneInstanceBound larger
-one-instance jobs q s a k h =
-    let job = jobAt jobs k in
-    let f = finish jobs q s a k in
-    let own : 1 * job .cost ≡ job .cost = omega arith in
-    let limit : 0 * job .period + job .deadline ≡ job .deadline = omega arith in
-    let first : f 0 ≡ oneInstanceBound jobs q s a k = ap₂ (λ (x d : ℕ). least (demand jobs q s a k x) d 1) own limit in
-    elim (ℕ-discrete (f 0) 0) [
-      | yes z ↦ ap (λ (r : Reached). r .response) (run-none f (job .period) 63 0 none z) ∙ sym z ∙ first
-      | no z ↦
-          let w = least-found (demand jobs q s a k (1 * job .cost)) (0 * job .period + job .deadline) 1 (omega arith) in
-          ap (λ (r : Reached). r .response) (run-closed f (job .period) 63 0 none z (omega (arith, w .2)))
-          ∙ larger-max none (responseOf (job .period) 0 (f 0)) ∙ omega (arith, first)
-    ]
-
 -- An instance has its finish in reach exactly if some time in reach covers its demand.
 pub finishes-by : (jobs : List Job) (q : List ℕ) (s a : Set) (k j : ℕ) → 0 < jobAt jobs k .cost
     → (0 < finish jobs q s a k j)
-    ↔ ((t : ℕ) × (0 < t) × (t ≤ j * jobAt jobs k .period + jobAt jobs k .deadline) × (demand jobs q s a k (suc j * jobAt jobs k .cost) t ≤ t))
+    ↔ ((t : ℕ) × (0 < t) × (t ≤ j * jobAt jobs k .period + jobAt jobs k .deadline - jobAt jobs k .delay) × (demand jobs q s a k (suc j * jobAt jobs k .cost) t ≤ t))
 unfolding finish
 finishes-by jobs q s a k j p =
     let own = suc j * jobAt jobs k .cost in
-    served-exactly (demand jobs q s a k own) (rising jobs q s a k own (works (jobAt jobs k .cost) j p)) (j * jobAt jobs k .period + jobAt jobs k .deadline)
+    served-exactly (demand jobs q s a k own) (rising jobs q s a k own (works (jobAt jobs k .cost) j p)) (j * jobAt jobs k .period + jobAt jobs k .deadline - jobAt jobs k .delay)

@@ -3,6 +3,7 @@ pub mod Least
 pub mod Runs
 pub mod Lesser
 pub mod Easier
+pub mod Undelayed
 pub mod Climbing
 pub mod Blocking
 pub mod Utilisation

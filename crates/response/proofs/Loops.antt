@@ -14,7 +14,7 @@ use Rattle.records.specs.Limits.{mostJobs}
 use Rattle.records.specs.Jobs.{jobAt}
 use Rattle.records.specs.declared.job.Job.{Job}
 use Rattle.response.specs.Demand.{otherQuanta}
-use Rattle.response.specs.Search.{whole, load, free, shortOf, longOf}
+use Rattle.response.specs.Search.{Table, whole, load, free, carried, shortOf, longOf}
 
 -- The other quanta of a layer are those of the layer without the job.
 pub others-removed : (k layer others : ℕ) (quanta : List ℕ) → others ≡ remove layer k
@@ -46,3 +46,7 @@ module _ (jobs : List Job) (above all long short longest : ℕ)
 pub free-same : (shares : List ℕ) (a b : Set) → ((i : ℕ) → i < length shares → a i ≡ b i) → free shares a ≡ free shares b
 unfolding free load
 free-same shares a b h = ap (λ (x : ℕ). whole - x) (over-same (length shares) a b _ _ h (λ i l e. refl))
+
+pub carried-same : (w : Table) (a b : Set) → ((i : ℕ) → i < length (w .jobs) → a i ≡ b i) → carried w a ≡ carried w b
+unfolding carried
+carried-same w a b h = over-same (length (w .jobs)) a b _ _ h (λ i l e. refl)

@@ -6,7 +6,7 @@ use Prim.Native.Nat.{ℕ, zero, suc, _+_, _*_, _-_, _≤_, _<_, max}
 use native.Mathlib.Decide.{decLe, ℕ-discrete}
 use native.Mathlib.Omega.{arith}
 use borrow.Author.Tests.{eq-eqb, ne-eqb, le-leb, lt-leb, lt-ltb, le-ltb}
-use Rattle.response.specs.Demand.{Reached, none, larger, responseOf, run}
+use Rattle.response.specs.Demand.{plusDelay, Reached, none, larger, responseOf, run}
 use Rattle.response.specs.Search.{runBy}
 
 pub larger-max : (a b : Reached) → larger a b .response ≡ max (a .response) (b .response)
@@ -15,6 +15,27 @@ larger-max a b = elim (decLe (b .response) (a .response)) [
   | yes h ↦ rw (le-ltb (a .response) (b .response) h, larger) (omega arith)
   | no h ↦ rw (lt-ltb (a .response) (b .response) (omega arith), larger) (omega arith)
 ]
+
+-- ---- a finish plus the delay
+
+plus-none : (delay t : ℕ) → t ≡ 0 → plusDelay delay t ≡ 0
+plus-none delay t e = ap (plusDelay delay) e
+
+plus-some : (delay t : ℕ) → t ≢ 0 → plusDelay delay t ≡ t + delay
+plus-some delay zero h = absurd (h refl)
+plus-some delay (suc t) h = refl
+
+-- It is there where the finish is, no earlier than that and no later where the finish is no later.
+pub plus-at-least : (delay t : ℕ) → t ≤ plusDelay delay t
+plus-at-least delay zero = omega arith
+plus-at-least delay (suc t) = omega arith
+
+pub plus-from : (delay t : ℕ) → 0 < plusDelay delay t → 0 < t
+plus-from delay zero h = h
+plus-from delay (suc t) h = omega arith
+
+pub plus-mono : (delay t u : ℕ) → 0 < t → t ≤ u → plusDelay delay t ≤ plusDelay delay u
+plus-mono delay t u p h = omega (arith, plus-some delay t (λ e. omega arith), plus-some delay u (λ e. omega arith))
 
 -- ---- one instance
 
@@ -62,42 +83,48 @@ run-never f period h (suc n) j b = elim (ℕ-discrete (f j) 0) [
 
 -- ---- as it is found
 
-module _ (found : ℕ → ℕ → ℕ) (period : ℕ) where
-  by-none : (n j before largest : ℕ) → found j before ≡ 0 → runBy found period (suc n) j before largest ≡ 0
+module _ (found : ℕ → ℕ → ℕ) (delay period : ℕ) where
+  by-none : (n j before largest : ℕ) → found j before ≡ 0 → runBy found delay period (suc n) j before largest ≡ 0
   unfolding runBy
   by-none n j before largest e = rw (eq-eqb (found j before) 0 e)
 
-  by-closed : (n j before largest : ℕ) → found j before ≢ 0 → found j before ≤ suc j * period
-      → runBy found period (suc n) j before largest ≡ max largest (found j before - j * period)
+  by-closed : (n j before largest : ℕ) → found j before ≢ 0 → found j before + delay ≤ suc j * period
+      → runBy found delay period (suc n) j before largest ≡ max largest (found j before + delay - j * period)
   unfolding runBy
-  by-closed n j before largest e h = rw (ne-eqb (found j before) 0 e, le-leb (found j before) (suc j * period) h)
+  by-closed n j before largest e h = rw (ne-eqb (found j before) 0 e, le-leb (found j before + delay) (suc j * period) h)
 
-  by-open : (n j before largest : ℕ) → found j before ≢ 0 → suc j * period < found j before
-      → runBy found period (suc n) j before largest ≡ runBy found period n (suc j) (found j before) (max largest (found j before - j * period))
+  by-open : (n j before largest : ℕ) → found j before ≢ 0 → suc j * period < found j before + delay
+      → runBy found delay period (suc n) j before largest ≡ runBy found delay period n (suc j) (found j before) (max largest (found j before + delay - j * period))
   unfolding runBy
-  by-open n j before largest e h = rw (ne-eqb (found j before) 0 e, lt-leb (found j before) (suc j * period) h)
+  by-open n j before largest e h = rw (ne-eqb (found j before) 0 e, lt-leb (found j before + delay) (suc j * period) h)
 
   -- What is found is the response of the run, if each search from a time that is good for its instance finds its finish.
   module _ (f : ℕ → ℕ) (Good : ℕ → ℕ → Type 0) (same : (j b : ℕ) → Good j b → found j b ≡ f j) (next : (j : ℕ) → 0 < f j → Good (suc j) (f j)) where
-    pub run-found : (n j b : ℕ) (before : Reached) → Good j b → runBy found period n j b (before .response) ≡ run f period n j before .response
+    abbrev late : ℕ → ℕ
+    late j = plusDelay delay (f j)
+
+    pub run-found : (n j b : ℕ) (before : Reached) → Good j b → runBy found delay period n j b (before .response) ≡ run late period n j before .response
     unfolding run runBy
     run-found zero j b before good = refl
     run-found (suc n) j b before good =
         let e : found j b ≡ f j = same j b good in
-        let most : max (before .response) (found j b - j * period) ≡ larger before (responseOf period j (f j)) .response =
-        ap (λ (x : ℕ). max (before .response) (x - j * period)) e ∙ sym (larger-max before (responseOf period j (f j))) in
         elim (ℕ-discrete (f j) 0) [
-          | yes z ↦ by-none n j b (before .response) (e ∙ z) ∙ sym (ap (λ (r : Reached). r .response) (run-none f period n j before z))
-          | no z ↦ elim (decLe (f j) (suc j * period)) [
-            | yes c ↦
-                by-closed n j b (before .response) (λ q. z (sym e ∙ q)) (omega arith) ∙ most
-                ∙ sym (ap (λ (r : Reached). r .response) (run-closed f period n j before z c))
-            | no c ↦
-                by-open n j b (before .response) (λ q. z (sym e ∙ q)) (omega arith)
-                ∙ ap₂ (runBy found period n (suc j)) e most
-                ∙ run-found n (suc j) (f j) (larger before (responseOf period j (f j))) (next j (omega arith))
-                ∙ sym (ap (λ (r : Reached). r .response) (run-open f period n j before z (omega arith)))
-          ]
+          | yes z ↦ by-none n j b (before .response) (e ∙ z) ∙ sym (ap (λ (r : Reached). r .response) (run-none late period n j before (plus-none delay (f j) z)))
+          | no z ↦
+              let l : late j ≡ f j + delay = plus-some delay (f j) z in
+              let some : late j ≢ 0 = λ q. z (omega arith) in
+              let most : max (before .response) (found j b + delay - j * period) ≡ larger before (responseOf period j (late j)) .response =
+              ap (λ (x : ℕ). max (before .response) (x - j * period)) (omega arith) ∙ sym (larger-max before (responseOf period j (late j))) in
+              elim (decLe (late j) (suc j * period)) [
+                | yes c ↦
+                    by-closed n j b (before .response) (λ q. z (sym e ∙ q)) (omega arith) ∙ most
+                    ∙ sym (ap (λ (r : Reached). r .response) (run-closed late period n j before some c))
+                | no c ↦
+                    by-open n j b (before .response) (λ q. z (sym e ∙ q)) (omega arith)
+                    ∙ ap₂ (runBy found delay period n (suc j)) e most
+                    ∙ run-found n (suc j) (f j) (larger before (responseOf period j (late j))) (next j (omega arith))
+                    ∙ sym (ap (λ (r : Reached). r .response) (run-open late period n j before some (omega arith)))
+              ]
         ]
 
   -- ---- the loop of the code, over n instances
@@ -106,17 +133,17 @@ module _ (found : ℕ → ℕ → ℕ) (period : ℕ) where
     left : n - j ≡ suc (n - suc j)
     left = omega arith
 
-    pub turn-none : found j before ≡ 0 → runBy found period (n - j) j before largest ≡ 0
+    pub turn-none : found j before ≡ 0 → runBy found delay period (n - j) j before largest ≡ 0
     turn-none e = rw left (by-none (n - suc j) j before largest e)
 
-    pub turn-closed : found j before ≢ 0 → found j before ≤ suc j * period
-        → runBy found period (n - j) j before largest ≡ max largest (found j before - j * period)
+    pub turn-closed : found j before ≢ 0 → found j before + delay ≤ suc j * period
+        → runBy found delay period (n - j) j before largest ≡ max largest (found j before + delay - j * period)
     turn-closed e c = rw left (by-closed (n - suc j) j before largest e c)
 
-    pub turn-open : found j before ≢ 0 → suc j * period < found j before
-        → runBy found period (n - j) j before largest ≡ runBy found period (n - suc j) (suc j) (found j before) (max largest (found j before - j * period))
+    pub turn-open : found j before ≢ 0 → suc j * period < found j before + delay
+        → runBy found delay period (n - j) j before largest ≡ runBy found delay period (n - suc j) (suc j) (found j before) (max largest (found j before + delay - j * period))
     turn-open e c = rw left (by-open (n - suc j) j before largest e c)
 
-  pub turn-out : (j before largest : ℕ) → runBy found period 0 j before largest ≡ 0
+  pub turn-out : (j before largest : ℕ) → runBy found delay period 0 j before largest ≡ 0
   unfolding runBy
   turn-out j before largest = refl

@@ -13,14 +13,14 @@ use lib.ListN.{length, getD, List·getD-eq-default}
 use borrow.Author.Tests.{lt-ltb, le-ltb, eqb-true, eqb-false}
 use Rattle.sets.specs.Places.{sumOver}
 use Rattle.sets.specs.Sets.{Set, places, has, single, remove, firstJobs, Alone}
-use Rattle.sets.proofs.Places.{over-same, over-mono, over-scale, list-length, list-at}
+use Rattle.sets.proofs.Places.{over-same, over-mono, over-scale, over-plus, list-length, list-at}
 use Rattle.records.specs.Jobs.{blankJob, jobAt}
 use Rattle.records.specs.declared.job.Job.{Job}
-use Rattle.response.specs.Demand.{ceilDiv, work, interference, otherQuanta, layerShare, demand, least, finish, none, mostInstances, largestResponse, firstBound, withNeighbours, only, secondBound, lesser, bound}
-use Rattle.response.specs.Search.{whole, utilisation, Table, sharesOf, tableOf, load, free, steps, shortOf, longOf, estimate, shortPart, plainSteps, farTime, timeFrom, timeFor, ownDemand, finishBy, largestBy, runsOn, runBound, inTable, oneBound, firstDecides, boundBy, noQuanta, plainWorkload, drops, rounds, blockedOf, workload}
+use Rattle.response.specs.Demand.{ceilDiv, work, interference, otherQuanta, layerShare, demand, least, finish, plusDelay, none, mostInstances, largestResponse, firstBound, withNeighbours, only, secondBound, lesser, bound}
+use Rattle.response.specs.Search.{whole, utilisation, Table, sharesOf, tableOf, load, free, carried, steps, shortOf, longOf, estimate, shortPart, plainSteps, farTime, timeFrom, timeFor, ownDemand, finishBy, largestBy, runsOn, runBound, inTable, oneBound, firstDecides, boundBy, noQuanta, plainWorkload, drops, rounds, blockedOf, workload}
 use Rattle.response.proofs.Division.{ceil-covers, ceil-one, ceil-mono, ceil-le}
 use Rattle.response.proofs.Least.{Rising, least-found, least-none, covered}
-use Rattle.response.proofs.Runs.{run-found, run-never, turn-none}
+use Rattle.response.proofs.Runs.{plus-from, plus-at-least, run-found, run-never, turn-none}
 use Rattle.response.proofs.Easier.{interference-mono, interference-split, easier, lighter-drop, first-alone, second-alone, second-none}
 use Rattle.response.proofs.Climbing.{Below, below-zero, below-later, steps-past, steps-end, steps-below, loop-least, loop-falls, loop-past, time-idle, time-full, time-start}
 use Rattle.sets.proofs.Members.{has-none, has-single, member-lt}
@@ -29,40 +29,45 @@ use Rattle.response.specs.declared.workload.Workload.{Workload}
 use Rattle.response.proofs.Lesser.{lesser-second}
 use Rattle.response.proofs.Blocking.{Covered, again-lt, none-dropped, decided, only-decides}
 
--- Within t a job adds at least its utilisation of t.
-covers : (job : Job) (t : ℕ) → t * utilisation job ≤ work job t * whole
+-- Within t a job adds at least its utilisation of t and of its delay.
+covers : (job : Job) (t : ℕ) → (t + job .delay) * utilisation job ≤ work job t * whole
 unfolding utilisation work
 covers job t = ⊎-elim
     (λ (z : job .period ≡ 0). simp (z, div-zero) (omega arith))
     (λ (p : 0 < job .period).
     let u = min (job .cost * whole / job .period) whole in
-    let c = ceilDiv t (job .period) in
+    let c = ceilDiv (t + job .delay) (job .period) in
     let a : u * job .period ≤ job .cost * whole =
     le-trans (mul-le-mul {m₂ = job .period} (omega arith) (le-refl (job .period))) (div-mul-le-self (job .cost * whole) (job .period)) in
-    le-trans (mul-le-mul (ceil-covers t (job .period) p) (le-refl u))
+    le-trans (mul-le-mul (ceil-covers (t + job .delay) (job .period) p) (le-refl u))
     (omega (arith, mul-assoc c (job .period) u, mul-comm (job .period) u, mul-assoc c (job .cost) whole, mul-le-mul-left c a)))
     (eq-zero-or-pos (job .period))
 
-load-covered : (jobs : List Job) (a : Set) (t : ℕ) → t * load (sharesOf jobs) a ≤ interference jobs a t * whole
-unfolding load interference
+load-covered : (jobs : List Job) (a : Set) (t : ℕ) → t * load (sharesOf jobs) a + carried (tableOf jobs) a ≤ interference jobs a t * whole
+unfolding load carried interference
 load-covered jobs a t =
     let n = length jobs in
     let u : ℕ → ℕ = λ i. utilisation (jobAt jobs i) in
+    let late : ℕ → ℕ = λ i. jobAt jobs i .delay * u i in
     let w : ℕ → ℕ = λ i. work (jobAt jobs i) t in
     let e : sumOver (length (sharesOf jobs)) a (λ i. getD (sharesOf jobs) i 0) ≡ sumOver n a u =
     ap (λ (m : ℕ). sumOver m a (λ i. getD (sharesOf jobs) i 0)) (list-length u n) ∙ over-same n a a _ u (λ i l. refl) (λ i l x. list-at u n i 0 l) in
-    let m : sumOver n a (λ i. t * u i) ≤ sumOver n a (λ i. whole * w i) = over-mono n a a _ _ (λ i l x. x) (λ i l x. omega (arith, covers (jobAt jobs i) t)) in
-    rw e (omega (arith, over-scale n t a u, over-scale n whole a w, m))
+    let c : sumOver n a (λ i. jobAt jobs i .delay * getD (sharesOf jobs) i 0) ≡ sumOver n a late =
+    over-same n a a _ late (λ i l. refl) (λ i l x. ap (λ (y : ℕ). jobAt jobs i .delay * y) (list-at u n i 0 l)) in
+    let m : sumOver n a (λ i. t * u i + late i) ≤ sumOver n a (λ i. whole * w i) =
+    over-mono n a a _ _ (λ i l x. x) (λ i l x. omega (arith, covers (jobAt jobs i) t, add-mul t (jobAt jobs i .delay) (u i))) in
+    rw (e, c) (omega (arith, over-plus n a (λ i. t * u i) late, over-scale n t a u, over-scale n whole a w, m))
 
--- The work within t is at most t times the work within 1.
-interference-one : (jobs : List Job) (a : Set) (t : ℕ) → interference jobs a t ≤ t * interference jobs a 1
+-- The work within t is at most t + 1 times the work within 1.
+interference-one : (jobs : List Job) (a : Set) (t : ℕ) → interference jobs a t ≤ suc t * interference jobs a 1
 unfolding interference work
 interference-one jobs a t =
     let n = length jobs in
-    let w : ℕ → ℕ = λ i. ceilDiv 1 (jobAt jobs i .period) * jobAt jobs i .cost in
-    let m : sumOver n a (λ i. ceilDiv t (jobAt jobs i .period) * jobAt jobs i .cost) ≤ sumOver n a (λ i. t * w i) =
-    over-mono n a a _ _ (λ i l x. x) (λ i l x. omega (arith, mul-le-mul-right (jobAt jobs i .cost) (ceil-one t (jobAt jobs i .period)), mul-assoc t (ceilDiv 1 (jobAt jobs i .period)) (jobAt jobs i .cost))) in
-    omega (arith, over-scale n t a w)
+    let w : ℕ → ℕ = λ i. work (jobAt jobs i) 1 in
+    let m : sumOver n a (λ i. work (jobAt jobs i) t) ≤ sumOver n a (λ i. suc t * w i) =
+    over-mono n a a _ _ (λ i l x. x) (λ i l x. let job = jobAt jobs i in
+    omega (arith, mul-le-mul-right (job .cost) (ceil-one t (job .delay) (job .period)), mul-assoc (suc t) (ceilDiv (1 + job .delay) (job .period)) (job .cost))) in
+    omega (arith, over-scale n (suc t) a w)
 
 -- ---- one finish
 
@@ -86,8 +91,11 @@ module _ (jobs : List Job) (a : Set) (own d : ℕ) where
   rising : 0 < f 1 → Rising f
   rising p = record { pos = λ t h. omega (arith, p, mono 1 t h); mono = mono }
 
-  -- A time x that is some rest and the work of a set within x: what the set leaves of x covers the rest.
-  leaves : (s : Set) (rest x : ℕ) → x ≡ rest + interference jobs s x → rest * whole ≤ x * free (sharesOf jobs) s
+  abbrev carry : ℕ
+  carry = carried (tableOf jobs) a
+
+  -- A time x that is some rest and the work of a set within x: what the set leaves of x covers the rest and what the delays carry.
+  leaves : (s : Set) (rest x : ℕ) → x ≡ rest + interference jobs s x → rest * whole + carried (tableOf jobs) s ≤ x * free (sharesOf jobs) s
   unfolding free
   leaves s rest x e =
       let taken = load (sharesOf jobs) s in
@@ -102,13 +110,13 @@ module _ (jobs : List Job) (a : Set) (own d : ℕ) where
   full-none : 0 < own → left ≡ 0 → least f d 1 ≡ 0
   full-none p h = least-none f d 1 (λ x g l e. omega (arith, leaves a own x (sym e), ap (λ (y : ℕ). x * y) h))
 
-  -- Else none is below own / left.
-  starts : 0 < own → 0 < left → (1 ≤ own * whole / left) × Below f d (own * whole / left)
+  -- Else none is below what own demand and delays come to by what is left.
+  starts : 0 < own → 0 < left → (1 ≤ (own * whole + carry) / left) × Below f d ((own * whole + carry) / left)
   unfolding free
-  starts p h = (omega (arith, low), record { least = λ x g l q. within (own * whole) left x h (leaves a own x (sym q)) })
+  starts p h = (omega (arith, low), record { least = λ x g l q. within (own * whole + carry) left x h (leaves a own x (sym q)) })
     where
-      low : own ≤ own * whole / left
-      low = le-div-iff-mul-le h .1 (mul-le-mul-left own (omega arith))
+      low : own ≤ (own * whole + carry) / left
+      low = let m : own * left ≤ own * whole = mul-le-mul-left own (omega arith) in le-div-iff-mul-le h .1 (omega arith)
 
   -- No time from t on that equals its demand lies below the estimate.
   estimated : (longest t x : ℕ) → t ≤ x → f x ≡ x → estimate w a longest own t ≤ x
@@ -118,10 +126,10 @@ module _ (jobs : List Job) (a : Set) (own d : ℕ) where
       let long = longOf jobs a longest in
       let at = own + interference jobs long t in
       let apart : interference jobs a x ≡ interference jobs long x + interference jobs short x = interference-split jobs a (λ i. leb (jobAt jobs i .period) longest) x in
-      let m : at * whole ≤ x * free (sharesOf jobs) short =
-      le-trans (mul-le-mul-right whole (omega (arith, interference-mono jobs long long t x (λ i l q. q) h)))
-      (leaves short (own + interference jobs long x) x (omega (arith, apart, e))) in
-      within (at * whole) (max 1 (free (sharesOf jobs) short)) x (omega arith) (le-trans m (mul-le-mul-left x (omega arith)))
+      let later : at * whole ≤ (own + interference jobs long x) * whole = mul-le-mul-right whole (omega (arith, interference-mono jobs long long t x (λ i l q. q) h)) in
+      let m : at * whole + carried w short ≤ x * free (sharesOf jobs) short =
+      omega (arith, later, leaves short (own + interference jobs long x) x (omega (arith, apart, e))) in
+      within (at * whole + carried w short) (max 1 (free (sharesOf jobs) short)) x (omega arith) (le-trans m (mul-le-mul-left x (omega arith)))
 
   -- The search from a time that no such time is below.
   far : 0 < f 1 → {t : ℕ} → 1 ≤ t → Below f d t → timeFrom w a own d t ≡ least f d 1
@@ -141,19 +149,19 @@ module _ (jobs : List Job) (a : Set) (own d : ℕ) where
         | no g ↦ loop-past f _ d (omega arith)
       ])
 
-  pub time-least : (before : ℕ) → Below f d before → timeFor w a left own d before ≡ least f d 1
+  pub time-least : (before : ℕ) → Below f d before → timeFor w a left carry own d before ≡ least f d 1
   time-least before b = elim (ℕ-discrete own 0) [
-    | yes e ↦ time-idle w a left own d before e ∙ elim (decLe 1 (interference jobs a 1)) [
+    | yes e ↦ time-idle w a left carry own d before e ∙ elim (decLe 1 (interference jobs a 1)) [
       | yes h ↦ far (omega arith) (omega arith) (below-later f d (record { least = λ x g l q. g }) b)
       | no h ↦
-          let none : (x : ℕ) → f x ≡ 0 = λ x. omega (arith, interference-one jobs a x, mul-le-mul-left {m = interference jobs a 1} {n = 0} x (omega arith)) in
+          let none : (x : ℕ) → f x ≡ 0 = λ x. omega (arith, interference-one jobs a x, mul-le-mul-left {m = interference jobs a 1} {n = 0} (suc x) (omega arith)) in
           idle none (max 1 before) (omega arith) ∙ sym (least-none f d 1 (λ x g l q. omega (arith, none x)))
     ]
     | no e ↦ elim (ℕ-discrete left 0) [
-      | yes h ↦ time-full w a left own d before e h ∙ sym (full-none (omega arith) h)
+      | yes h ↦ time-full w a left carry own d before e h ∙ sym (full-none (omega arith) h)
       | no h ↦
           let v = starts (omega arith) (omega arith) in
-          time-start w a left own d before e h ∙ far (omega arith) (omega (arith, v .0)) (below-later f d (v .1) b)
+          time-start w a left carry own d before e h ∙ far (omega arith) (omega (arith, v .0)) (below-later f d (v .1) b)
     ]
   ]
 
@@ -165,7 +173,7 @@ module _ (jobs : List Job) (a : Set) (own d : ℕ) where
       let x = least f d 1 in
       elim (decLe 1 (interference jobs a 1)) [
         | yes h ↦ omega arith
-        | no h ↦ omega (arith, least-found f d 1 p .0, interference-one jobs a x, mul-le-mul-left {m = interference jobs a 1} {n = 0} x (omega arith))
+        | no h ↦ omega (arith, least-found f d 1 p .0, interference-one jobs a x, mul-le-mul-left {m = interference jobs a 1} {n = 0} (suc x) (omega arith))
       ]
 
   -- No time that equals a larger own demand is below it.
@@ -232,7 +240,7 @@ module _ (jobs : List Job) (q : List ℕ) (s a : Set) (k : ℕ) where
   own j = ownDemand quantum others (suc j * job .cost)
 
   abbrev limit : ℕ → ℕ
-  limit j = j * job .period + job .deadline
+  limit j = j * job .period + job .deadline - job .delay
 
   finish-is : (j : ℕ) → finish jobs q s a k j ≡ least (λ t. own j + interference jobs a t) (limit j) 1
   unfolding finish demand layerShare ownDemand
@@ -245,10 +253,12 @@ module _ (jobs : List Job) (q : List ℕ) (s a : Set) (k : ℕ) where
       let more : suc j * job .cost ≤ suc (suc j) * job .cost = mul-le-mul-right (job .cost) (omega arith) in
       omega (arith, more, mul-le-mul-right others (ceil-mono (suc j * job .cost) (suc (suc j) * job .cost) quantum more))
 
-  pub largest-found : largestBy (tableOf jobs) a (free (sharesOf jobs) a) quantum others job ≡ firstBound jobs q s a k
+  pub largest-found : largestBy (tableOf jobs) a (free (sharesOf jobs) a) (carried (tableOf jobs) a) quantum others job ≡ firstBound jobs q s a k
   unfolding largestResponse finishBy
   largest-found =
-      run-found (finishBy (tableOf jobs) a (free (sharesOf jobs) a) quantum others (job .cost) (job .period) (job .deadline)) (job .period) (finish jobs q s a k)
+      run-found
+      (finishBy (tableOf jobs) a (free (sharesOf jobs) a) (carried (tableOf jobs) a) quantum others (job .cost) (job .period) (job .deadline) (job .delay))
+      (job .delay) (job .period) (finish jobs q s a k)
       (λ j b. Below (λ t. own j + interference jobs a t) (limit j) b)
       (λ j b g. time-least jobs a (own j) (limit j) b g ∙ sym (finish-is j))
       (λ j p. rw (finish-is j) (starts-later jobs a (own j) (limit j) (own (suc j)) (limit (suc j)) (own-mono j) (rw (finish-is j) at p)))
@@ -267,13 +277,17 @@ module _ (jobs : List Job) (q : List ℕ) (s a : Set) (k : ℕ) where
         | no g ↦ omega arith
         | yes g ↦
             absurd (exceeds n (job .period) quantum (free (sharesOf jobs) a) (job .cost) (quantum + others) whole (own j) x (omega arith) h
-            (own-covers n (job .cost) quantum others c (ceil-covers (n * job .cost) quantum p)) (leaves jobs a (own j) 0 a (own j) x (sym (v .0))) g)
+            (own-covers n (job .cost) quantum others c (ceil-covers (n * job .cost) quantum p)) (omega (arith, leaves jobs a (own j) 0 a (own j) x (sym (v .0)))) g)
       ])
 
-  -- So it has no bound.
+  -- So it has no bound, its delay making each finish later.
   never : 0 < quantum → job .period * quantum * free (sharesOf jobs) a < job .cost * (quantum + others) * whole → firstBound jobs q s a k ≡ 0
   unfolding largestResponse
-  never p h = run-never (finish jobs q s a k) (job .period) (runs-past p h) mostInstances 0 none
+  never p h =
+      run-never (λ j. plusDelay (job .delay) (finish jobs q s a k j)) (job .period)
+      (λ j b.
+      let x = finish jobs q s a k j in
+      omega (arith, runs-past p h j (plus-from (job .delay) x b), plus-at-least (job .delay) x)) mostInstances 0 none
 
 -- ---- each of the two bounds
 
@@ -295,7 +309,7 @@ module _ (w : Table) (a : Set) (quantum others : ℕ) (job : Job) where
   on = runsOn (free (w .shares) a) quantum others job
 
   abbrev found : ℕ
-  found = largestBy w a (free (w .shares) a) quantum others job
+  found = largestBy w a (free (w .shares) a) (carried w a) quantum others job
 
   pub run-stops : on ≡ true → runBound w a quantum others job ≡ 0
   unfolding runBound
@@ -308,16 +322,16 @@ module _ (w : Table) (a : Set) (quantum others : ℕ) (job : Job) where
   -- A job without times has no bound.
   pub run-blank : job ≡ blankJob → runBound w a quantum others job ≡ 0
   unfolding runBound finishBy ownDemand
-  run-blank blank = either on (rw blank (turn-none _ 0 mostInstances 0 0 0 (omega arith) never-found))
+  run-blank blank = either on (rw blank (turn-none _ 0 0 mostInstances 0 0 0 (omega arith) never-found))
     where
       either : (b : Bool) {x : ℕ} → x ≡ 0 → cond b 0 x ≡ 0
       either true e = refl
       either false e = e
 
-      never-found : finishBy w a (free (w .shares) a) quantum others 0 0 0 0 0 ≡ 0
+      never-found : finishBy w a (free (w .shares) a) (carried w a) quantum others 0 0 0 0 0 0 ≡ 0
       never-found =
           let cycles : ceilDiv 0 quantum ≡ 0 = let h = ceil-le 0 quantum in omega arith in
-          rw cycles (time-idle w a _ _ 0 0 (omega arith) ∙ past-none w a _ (omega arith))
+          rw cycles (time-idle w a _ _ _ 0 0 (omega arith) ∙ past-none w a _ (omega arith))
 
 -- Each of the two bounds is found.
 pub run-bound : (jobs : List Job) (q : List ℕ) (s a : Set) (k : ℕ)

@@ -1,15 +1,19 @@
--- Worked runs of a job's instances, each with the first instance that reaches the bound, and worked pairs of bounds: a table and a
--- computed statement for each. Assumes nothing.
+-- Worked runs of a job's instances, each with the first instance that reaches the bound, worked pairs of bounds, and how long delays keep
+-- a run open: a table and a computed statement for each. Assumes nothing.
 use Prim.Native.Nat.{ℕ}
 use mathlib.Core.Path.{_≡_, refl}
 use mathlib.Core.List.{List, [], _∷_, map}
 use Rattle.sets.specs.Places.{sum, sumOver}
 use Rattle.sets.specs.Sets.{has}
 use Rattle.records.specs.declared.job.Job.{Job}
-use Rattle.response.specs.Demand.{ceilDiv, work, interference, otherQuanta, layerShare, demand, least, finish, Reached, none, larger, run, largestResponse, firstBound, secondBound, bound}
+use Rattle.response.specs.Demand.{ceilDiv, work, interference, otherQuanta, layerShare, demand, least, finish, plusDelay, Reached, none, larger, run, largestResponse, firstBound, secondBound, bound}
+
+-- A job with its delay, C, T and D, and one without delay.
+pub late : ℕ → ℕ → ℕ → ℕ → Job
+late delay cost period deadline = record { id = 1; delay = delay; cost = cost; period = period; deadline = deadline }
 
 pub job : ℕ → ℕ → ℕ → Job
-job cost period deadline = record { id = 1; cost = cost; period = period; deadline = deadline }
+job cost period deadline = late 0 cost period deadline
 
 -- The jobs, their quanta, the numbers of the layer and of the set above, and what the job at place 1 is to have.
 pub record Case : Type 0 where
@@ -52,10 +56,28 @@ cases =
     ∷ beside (job 1 9 9) (job 3 6 7) 2 2 (reaches 7 0)
     -- responses 7, 9, 9, 5: the first instance that reaches the bound
     ∷ record { jobs = job 4 7 7 ∷ job 1 5 9 ∷ job 2 10 10 ∷ []; quanta = []; layer = 2; above = 5; answer = reaches 9 1 }
+    -- the delay of the job above makes it count once more within 4 ticks; where t + J is just its period it does not
+    ∷ under (job 1 4 4) (job 3 12 12) (reaches 4 0)
+    ∷ under (late 1 1 4 4) (job 3 12 12) (reaches 5 0)
+    ∷ under (late 1 1 5 5) (job 3 12 12) (reaches 4 0)
+    -- the job's own delay is in its bound, which may be just the deadline; the delay of the job below does not count for the one above
+    ∷ under (job 1 5 5) (late 3 2 9 6) (reaches 6 0)
+    ∷ under (job 1 5 5) (late 3 2 9 5) none
+    ∷ record { jobs = late 7 5 9 9 ∷ job 3 4 4 ∷ []; quanta = []; layer = 2; above = 0; answer = reaches 3 0 }
+    -- a delay keeps the run open that instance 0 closes at its next release (the first case), and no instance closes it
+    ∷ under (job 1 2 2) (late 1 1 2 9) none
+    -- a delay longer than the period: responses 13 and 4, and the finish of instance 1 lies before its release
+    ∷ beside (job 1 9 9) (late 12 1 10 13) 0 0 (reaches 13 0)
+    -- J of 255: the job above counts three times within 4 ticks; in the job's own bound; instance 63 closes the run at 320; it does not
+    ∷ under (late 255 1 100 100) (job 1 60000 60000) (reaches 4 0)
+    ∷ under (job 1 100 100) (late 255 1 60000 257) (reaches 257 0)
+    ∷ under (job 1 100 100) (late 255 1 60000 256) none
+    ∷ beside (job 1 9 9) (late 255 1 5 256) 0 0 (reaches 256 0)
+    ∷ beside (job 1 9 9) (late 255 2 5 300) 0 0 none
     ∷ []
 
 pub worked : map answered cases ≡ map (λ c. c .answer) cases
-unfolding job answered under beside reaches cases sum sumOver has ceilDiv work interference otherQuanta layerShare demand least finish larger run largestResponse
+unfolding late job answered under beside reaches cases sum sumOver has ceilDiv work interference otherQuanta layerShare demand least finish larger run largestResponse
 worked = refl
 
 -- ---- two bounds
@@ -99,8 +121,37 @@ pairs =
     ∷ record { jobs = job 1 4 4 ∷ job 3 12 12 ∷ []; quanta = []; layer = 2; above = 1; place = 1; answer = (4, 4, 4) }
     -- a job above the layer counts in both
     ∷ record { jobs = job 1 4 4 ∷ job 4 20 20 ∷ job 1 20 20 ∷ []; quanta = 0 ∷ 1 ∷ 2 ∷ []; layer = 6; above = 1; place = 1; answer = (16, 7, 7) }
+    -- the delay of a neighbour counts in the second bound alone, the job's own in both
+    ∷ pair (job 4 20 20) (late 15 2 20 20) 1 4 0 (20, 8, 8)
+    ∷ pair (late 3 4 23 23) (job 2 20 20) 1 4 0 (23, 9, 9)
+    ∷ pair (late 3 4 20 20) (job 2 20 20) 1 4 0 (0, 9, 9)
     ∷ []
 
 pub lesser-worked : map bounds pairs ≡ map (λ c. c .answer) pairs
-unfolding job bounds pair pairs sum sumOver has ceilDiv work interference otherQuanta layerShare demand least finish larger run largestResponse bound
+unfolding late job bounds pair pairs sum sumOver has ceilDiv work interference otherQuanta layerShare demand least finish larger run largestResponse bound
 lesser-worked = refl
+
+-- ---- how long a delay keeps a run open
+
+-- What the run of a job with nothing above comes to over so many instances.
+pub lasts : ℕ × Job → Reached
+lasts c = run (λ j. plusDelay (c .1 .delay) (finish (c .1 ∷ []) [] (has 1) (has 0) 0 j)) (c .1 .period) (c .0) 0 none
+
+pub runs : List ((ℕ × Job) × Reached)
+runs =
+    -- without delay instance 0 closes; so it does where the finish plus J is at the next release; one tick more, and instance 1 closes
+    ((1, job 2 5 9), reaches 2 0)
+    ∷ ((1, late 3 2 5 9), reaches 5 0)
+    ∷ ((1, late 4 2 5 9), none)
+    ∷ ((2, late 4 2 5 9), reaches 6 0)
+    -- a delay longer than the period
+    ∷ ((1, late 12 1 10 13), none)
+    ∷ ((2, late 12 1 10 13), reaches 13 0)
+    -- instance 63 and none before it
+    ∷ ((63, late 255 1 5 256), none)
+    ∷ ((64, late 255 1 5 256), reaches 256 0)
+    ∷ []
+
+pub open-worked : map (λ c. lasts (c .0)) runs ≡ map (λ c. c .1) runs
+unfolding late job reaches lasts runs sum sumOver has ceilDiv work interference otherQuanta layerShare demand least finish larger run
+open-worked = refl

@@ -1,5 +1,5 @@
--- The response-time test (01, and 02's E1 for deadlines past the period and E2 for the second bound), from source document 004, section
--- 4.3 and equations (7), (17) and (18). Assumes nothing.
+-- The response-time test (01, and 02's E1 for deadlines past the period, E2 for the second bound and E4 for delays), from source document
+-- 004, section 4.3 and equations (7), (10), (17) and (18). Assumes nothing.
 use Prim.Native.Nat.{ℕ, zero, suc, _+_, _*_, _/_, _-_, min}
 use mathlib.Core.Bool.{true, false, not, _&&_, _||_}
 use mathlib.Core.List.{List}
@@ -14,9 +14,9 @@ use Rattle.records.specs.declared.job.Job.{Job}
 unfoldable pub ceilDiv : ℕ → ℕ → ℕ
 ceilDiv x y = (x + (y - 1)) / y
 
--- The work that a job above adds within t ticks: "t divided by that job's T, rounded up, times that job's C".
+-- The work that a job above adds within t ticks: "t + J divided by its T, rounded up", times its C.
 unfoldable pub work : Job → ℕ → ℕ
-work job t = ceilDiv t (job .period) * job .cost
+work job t = ceilDiv (t + job .delay) (job .period) * job .cost
 
 -- The interference: "for each job above", its work.
 unfoldable pub interference : List Job → Set → ℕ → ℕ
@@ -44,17 +44,19 @@ unfoldable pub least : (ℕ → ℕ) → ℕ → ℕ → ℕ
 least f zero t = 0
 least f (suc n) t = elim (eqb (f t) t) [ true ↦ t | false ↦ least f n (suc t) ]
 
--- 01's bound, of one instance: "the least t from 1 to D whose demand equals t. If there is none, the bound is 0."
-unfoldable pub oneInstanceBound : List Job → List ℕ → Set → Set → ℕ → ℕ
-oneInstanceBound jobs quanta layer above k = least (demand jobs quanta layer above k (jobAt jobs k .cost)) (jobAt jobs k .deadline) 1
-
 -- ---- instances (E1)
 
 -- The finish of instance j: "Instance j (from 0) has own work (j+1)·C, its cycles are taken of that work, and its finish is the least t
--- that equals its demand." It is sought up to j·T + D: after a later one the response exceeds D. 0 where there is none.
+-- that equals its demand." It is sought up to j·T + D - J: after a later one the response exceeds D. 0 where there is none.
 unfoldable pub finish : List Job → List ℕ → Set → Set → ℕ → ℕ → ℕ
 finish jobs quanta layer above k j =
-    least (demand jobs quanta layer above k (suc j * jobAt jobs k .cost)) (j * jobAt jobs k .period + jobAt jobs k .deadline) 1
+    let job = jobAt jobs k in
+    least (demand jobs quanta layer above k (suc j * job .cost)) (j * job .period + job .deadline - job .delay) 1
+
+-- "Its finish plus J" (E4); 0 where there is no finish.
+abbrev pub plusDelay : ℕ → ℕ → ℕ
+plusDelay delay zero = 0
+plusDelay delay (suc t) = suc t + delay
 
 -- A response and the instance that has it.
 pub record Reached : Type 0 where
@@ -69,12 +71,13 @@ none = record { response = 0; instance = 0 }
 unfoldable pub larger : Reached → Reached → Reached
 larger earlier later = elim (ltb (earlier .response) (later .response)) [ true ↦ later | false ↦ earlier ]
 
--- "Its response is that finish less j·T."
+-- "Its response is that finish less j·T", and it gains J: the finish here is the finish plus J.
 abbrev pub responseOf : ℕ → ℕ → ℕ → Reached
 responseOf period j finish = record { response = finish - j * period; instance = j }
 
 -- The largest response "up to the first instance that finishes by (j+1)·T", among n instances from j on and the largest of those before;
--- none where a finish does not exist in reach or the last of the n instances still runs past its (j+1)·T.
+-- none where a finish does not exist in reach or the last of the n instances still runs past its (j+1)·T. Each finish is one plus J: "an
+-- instance closes the run when its finish plus J is by (j+1)·T", and "instance 63 counts as running past 64·T when its finish plus J does".
 unfoldable pub run : (ℕ → ℕ) → ℕ → ℕ → ℕ → Reached → Reached
 run finishes period zero j before = none
 run finishes period (suc n) j before = elim (eqb (finishes j) 0) [
@@ -91,7 +94,8 @@ mostInstances = 64
 
 -- The largest response of the job at place k in a layer with a set above, and the first instance that reaches it.
 unfoldable pub largestResponse : List Job → List ℕ → Set → Set → ℕ → Reached
-largestResponse jobs quanta layer above k = run (finish jobs quanta layer above k) (jobAt jobs k .period) mostInstances 0 none
+largestResponse jobs quanta layer above k =
+    run (λ j. plusDelay (jobAt jobs k .delay) (finish jobs quanta layer above k j)) (jobAt jobs k .period) mostInstances 0 none
 
 -- ---- two bounds (E2)
 

@@ -40,6 +40,10 @@ load shares set = sumOver (length shares) set (λ i. getD shares i 0)
 unfoldable pub free : List ℕ → Set → ℕ
 free shares set = whole - load shares set
 
+-- What the delays of a set's jobs add at least to their work, in parts of a tick: each delay by the job's utilisation.
+unfoldable pub carried : Table → Set → ℕ
+carried table set = sumOver (length (table .jobs)) set (λ i. jobAt (table .jobs) i .delay * getD (table .shares) i 0)
+
 -- ---- one finish
 
 -- At most n steps of the plain iteration: t gives way to f t as long as that is later and t is at most d.
@@ -61,10 +65,10 @@ abbrev pub longOf : List Job → Set → ℕ → Set
 longOf jobs set longest i = set i && not (leb (jobAt jobs i .period) longest)
 
 -- An estimate that no time from t on which equals its demand lies below: the jobs with long periods count as at t, those with short ones
--- by their utilisation.
+-- by their utilisation of the time and of their delays.
 unfoldable pub estimate : Table → Set → ℕ → ℕ → ℕ → ℕ
 estimate table above longest own t =
-    (own + interference (table .jobs) (longOf (table .jobs) above longest) t) * whole
+    ((own + interference (table .jobs) (longOf (table .jobs) above longest) t) * whole + carried table (shortOf (table .jobs) above longest))
     / max 1 (free (table .shares) (shortOf (table .jobs) above longest))
 
 -- The longest period that counts as short is the time at which estimates begin divided by shortPart; they begin after so many plain
@@ -85,13 +89,13 @@ unfoldable pub timeFrom : Table → Set → ℕ → ℕ → ℕ → ℕ
 timeFrom table above own d t =
     farTime table above own d (steps (λ x. own + interference (table .jobs) above x) d plainSteps t)
 
--- The least time up to d for own demand beside the interference of the set above, which leaves `left` of the processor: where it leaves
--- nothing there is none; else none is below own / left, and the search starts there, or at `before` if that is later. Without own demand
--- it starts at 1 or at `before`.
-unfoldable pub timeFor : Table → Set → ℕ → ℕ → ℕ → ℕ → ℕ
-timeFor table above left own d before =
+-- The least time up to d for own demand beside the interference of the set above, which leaves `left` of the processor and whose delays
+-- carry so much: where it leaves nothing there is none; else none is below what own demand and delays come to by what is left, and the
+-- search starts there, or at `before` if that is later. Without own demand it starts at 1 or at `before`.
+unfoldable pub timeFor : Table → Set → ℕ → ℕ → ℕ → ℕ → ℕ → ℕ
+timeFor table above left carry own d before =
     cond (eqb own 0) (timeFrom table above own d (max 1 before))
-    (cond (eqb left 0) 0 (timeFrom table above own d (max (own * whole / left) before)))
+    (cond (eqb left 0) 0 (timeFrom table above own d (max ((own * whole + carry) / left) before)))
 
 -- ---- the run of instances
 
@@ -100,22 +104,23 @@ unfoldable pub ownDemand : ℕ → ℕ → ℕ → ℕ
 ownDemand quantum others own = own + ceilDiv own quantum * others
 
 -- The finish of instance j of a job with these times as it is found, from a time `before` on.
-unfoldable pub finishBy : Table → Set → ℕ → ℕ → ℕ → ℕ → ℕ → ℕ → ℕ → ℕ → ℕ
-finishBy table above left quantum others cost period deadline j before =
-    timeFor table above left (ownDemand quantum others (suc j * cost)) (j * period + deadline) before
+unfoldable pub finishBy : Table → Set → ℕ → ℕ → ℕ → ℕ → ℕ → ℕ → ℕ → ℕ → ℕ → ℕ → ℕ
+finishBy table above left carry quantum others cost period deadline delay j before =
+    timeFor table above left carry (ownDemand quantum others (suc j * cost)) (j * period + deadline - delay) before
 
 -- The largest response as it is found: each finish is sought from the finish of the instance before.
-unfoldable pub runBy : (ℕ → ℕ → ℕ) → ℕ → ℕ → ℕ → ℕ → ℕ → ℕ
-runBy finishes period zero j before largest = 0
-runBy finishes period (suc n) j before largest =
+unfoldable pub runBy : (ℕ → ℕ → ℕ) → ℕ → ℕ → ℕ → ℕ → ℕ → ℕ → ℕ
+runBy finishes delay period zero j before largest = 0
+runBy finishes delay period (suc n) j before largest =
     cond (eqb (finishes j before) 0) 0
-    (cond (leb (finishes j before) (suc j * period)) (max largest (finishes j before - j * period))
-    (runBy finishes period n (suc j) (finishes j before) (max largest (finishes j before - j * period))))
+    (cond (leb (finishes j before + delay) (suc j * period)) (max largest (finishes j before + delay - j * period))
+    (runBy finishes delay period n (suc j) (finishes j before) (max largest (finishes j before + delay - j * period))))
 
 -- The largest response of a job beside the set above.
-abbrev pub largestBy : Table → Set → ℕ → ℕ → ℕ → Job → ℕ
-largestBy table above left quantum others job =
-    runBy (finishBy table above left quantum others (job .cost) (job .period) (job .deadline)) (job .period) mostInstances 0 0 0
+abbrev pub largestBy : Table → Set → ℕ → ℕ → ℕ → ℕ → Job → ℕ
+largestBy table above left carry quantum others job =
+    runBy (finishBy table above left carry quantum others (job .cost) (job .period) (job .deadline) (job .delay)) (job .delay) (job .period) mostInstances
+    0 0 0
 
 -- The layer asks for more than is left of the processor: within each period a job needs its cost and the layer's share for it, at least
 -- cost · (quantum + others) / quantum. Then no instance finishes by its next release.
@@ -131,7 +136,7 @@ inTable workload = record { jobs = workload .jobs; shares = workload .shares }
 unfoldable pub runBound : Table → Set → ℕ → ℕ → Job → ℕ
 runBound table above quantum others job =
     let left = free (table .shares) above in
-    cond (runsOn left quantum others job) 0 (largestBy table above left quantum others job)
+    cond (runsOn left quantum others job) 0 (largestBy table above left (carried table above) quantum others job)
 
 -- The same of the job at place k in a layer.
 abbrev pub oneBound : Workload → List ℕ → Set → Set → ℕ → ℕ

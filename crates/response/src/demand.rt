@@ -17,17 +17,17 @@ pub(crate) fn ceil_div(a: u32, b: u32) -> u32
     (a + (b - 1)) / b
 }
 
-// The work that a job adds within t ticks.
+// The work that a job adds within t ticks, its releases noticed late by its delay.
 fn work(job: Job, t: u32) -> u64
-    requires { ⌜ t < 2 ^ 23 ⌝ }
+    requires { ⌜ t < 2 ^ 22 ⌝ }
     ensures { λ r. ⌜ (r ≡ work job t) × (r < 2 ^ 39) ⌝ }
 {
-    (ceil_div(t, job.period as u32) as u64) * (job.cost as u64)
+    (ceil_div(t + job.delay as u32, job.period as u32) as u64) * (job.cost as u64)
 }
 
 // The work of the jobs of the set above within t ticks.
 pub(crate) fn interference(jobs: [Job; Job::MOST], above: u8, t: u32) -> u64
-    requires { ⌜ t < 2 ^ 23 ⌝ }
+    requires { ⌜ t < 2 ^ 22 ⌝ }
     ensures { λ r. ⌜ (r ≡ interference jobs (has above) t) × (r ≤ 2 ^ 42) ⌝ }
 {
     let mut sum: u64 = 0;
@@ -49,7 +49,7 @@ pub(crate) struct Works {
 
 // The work of two sets of jobs within t ticks, in one pass.
 pub(crate) fn works_of(jobs: [Job; Job::MOST], long: u8, short: u8, t: u32) -> Works
-    requires { ⌜ t < 2 ^ 23 ⌝ }
+    requires { ⌜ t < 2 ^ 22 ⌝ }
     ensures { λ r. ⌜ (r .long ≡ interference jobs (has long) t) × (r .short ≡ interference jobs (has short) t) × (r .long ≤ 2 ^ 42) × (r .short ≤ 2 ^ 42) ⌝ }
 {
     let mut of_long: u64 = 0;

@@ -1,7 +1,7 @@
-// The run of a job's instances: the largest response up to the first instance that finishes by its next release, which is one of the two
-// bounds.
+// The run of a job's instances: the largest response up to the first instance that finishes by its next release, its delay counted, which
+// is one of the two bounds.
 ghost use mathlib.Core.Path.{_≡_};
-ghost use Prim.Native.Nat.{_*_, _^_, _<_, _≤_};
+ghost use Prim.Native.Nat.{_-_, _*_, _^_, _<_, _≤_};
 ghost use Rattle.sets.specs.Sets.{has};
 ghost use Rattle.response.specs.Search.{whole, ownDemand, largestBy, runsOn, runBound};
 use crate::demand;
@@ -35,38 +35,51 @@ fn own_demand(cost: u32, count: u32, quantum: u8, others: u32) -> u64
     work as u64 + (cycles as u64) * (others as u64)
 }
 
+// a less b; 0 where b is more.
+fn less(a: u32, b: u32) -> u32
+    ensures { λ r. ⌜ r ≡ a - b ⌝ }
+{
+    if a < b {
+        return 0;
+    }
+    a - b
+}
+
 // The largest response of a job up to the first instance that finishes by its next release; 0 where a finish does not exist by the
-// instance's deadline, or where the last instance still runs past its next release.
+// instance's deadline, or where the last instance still runs past its next release. Each finish counts with the job's delay.
 fn largest_response(
     jobs: [Job; Job::MOST],
     shares: [u32; Job::MOST],
     above: u8,
     left: u64,
+    carry: u64,
     quantum: u8,
     others: u32,
     job: Job,
 ) -> u16
-    requires { ⌜ others ≤ 2 ^ 11 ⌝ }
-    ensures { λ r. ⌜ r ≡ largestBy (record { jobs = jobs; shares = shares }) (has above) left quantum others job ⌝ }
+    requires { ⌜ (carry ≤ 2 ^ 43) × (others ≤ 2 ^ 11) ⌝ }
+    ensures { λ r. ⌜ r ≡ largestBy (record { jobs = jobs; shares = shares }) (has above) left carry quantum others job ⌝ }
 {
     let cost = job.cost as u32;
     let period = job.period as u32;
     let deadline = job.deadline as u32;
+    let delay = job.delay as u32;
     let mut largest: u32 = 0;
     let mut before: u32 = 0;
     let mut instance: u32 = 0;
     while instance < INSTANCES {
         let release = instance * period;
         let own = own_demand(cost, instance + 1, quantum, others);
-        let finish = search::time_for(jobs, shares, above, left, own, release + deadline, before);
+        let limit = less(release + deadline, delay);
+        let finish = search::time_for(jobs, shares, above, left, carry, own, limit, before);
         if finish == 0 {
             return 0;
         }
-        let response = finish - release;
+        let response = finish + delay - release;
         if largest < response {
             largest = response;
         }
-        if finish <= release + period {
+        if finish + delay <= release + period {
             return largest as u16;
         }
         before = finish;
@@ -87,9 +100,18 @@ pub(crate) fn run_bound(
     requires { ⌜ others ≤ 2 ^ 11 ⌝ }
     ensures { λ r. ⌜ r ≡ runBound (record { jobs = jobs; shares = shares }) (has above) quantum others job ⌝ }
 {
-    let left = workload::free(shares, above);
-    if runs_on(left, quantum, others, job) {
+    let spare = workload::spare_of(jobs, shares, above);
+    if runs_on(spare.left, quantum, others, job) {
         return 0;
     }
-    largest_response(jobs, shares, above, left, quantum, others, job)
+    largest_response(
+        jobs,
+        shares,
+        above,
+        spare.left,
+        spare.carry,
+        quantum,
+        others,
+        job,
+    )
 }

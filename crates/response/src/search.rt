@@ -46,18 +46,19 @@ fn later(a: u64, b: u64) -> u64
 }
 
 // The iteration from a start up to a limit, for the jobs above in two sets: between two steps those with short periods count by what
-// they leave of the processor.
+// they leave of the processor and by what their delays carry.
 fn climb(
     jobs: [Job; Job::MOST],
     long: u8,
     short: u8,
     left: u64,
+    carry: u64,
     own: u64,
     limit: u32,
     start: u64,
 ) -> u32
-    requires { ⌜ (0 < left) × (own < 2 ^ 40) × (limit < 2 ^ 23) ⌝ }
-    ensures { λ r. ⌜ (r ≡ climb (λ t. own + interference jobs (has long) t + interference jobs (has short) t) (λ t. (own + interference jobs (has long) t) * whole / left) limit (suc limit) start) × (r ≤ limit) × ((r ≡ 0 → ⊥) → start ≤ r) ⌝ }
+    requires { ⌜ (0 < left) × (carry ≤ 2 ^ 43) × (own < 2 ^ 40) × (limit < 2 ^ 22) ⌝ }
+    ensures { λ r. ⌜ (r ≡ climb (λ t. own + interference jobs (has long) t + interference jobs (has short) t) (λ t. ((own + interference jobs (has long) t) * whole + carry) / left) limit (suc limit) start) × (r ≤ limit) × ((r ≡ 0 → ⊥) → start ≤ r) ⌝ }
 {
     let end = limit as u64 + 1;
     let mut t = start;
@@ -72,7 +73,7 @@ fn climb(
             }
             return 0;
         }
-        t = later(next, part * WHOLE / left);
+        t = later(next, (part * WHOLE + carry) / left);
     }
     0
 }
@@ -86,35 +87,37 @@ fn far_time(
     limit: u32,
     start: u64,
 ) -> u32
-    requires { ⌜ (own < 2 ^ 40) × (limit < 2 ^ 23) ⌝ }
+    requires { ⌜ (own < 2 ^ 40) × (limit < 2 ^ 22) ⌝ }
     ensures { λ r. ⌜ (r ≡ farTime (record { jobs = jobs; shares = shares }) (has above) own limit start) × (r ≤ limit) × ((r ≡ 0 → ⊥) → start ≤ r) ⌝ }
 {
     let long = sets::rest(above, short_jobs(jobs, start / SHORT_PART));
     let short = sets::rest(above, long);
-    let left = later(1, workload::free(shares, short));
-    climb(jobs, long, short, left, own, limit, start)
+    let spare = workload::spare_of(jobs, shares, short);
+    let left = later(1, spare.left);
+    climb(jobs, long, short, left, spare.carry, own, limit, start)
 }
 
-// The least time up to a limit that equals the own demand with the interference of the set above, which leaves some of the processor, or
-// 0; no such time is below `before`.
+// The least time up to a limit that equals the own demand with the interference of the set above, or 0; no such time is below `before`.
+// `left` is what the set leaves of the processor, `carry` what its delays carry.
 pub(crate) fn time_for(
     jobs: [Job; Job::MOST],
     shares: [u32; Job::MOST],
     above: u8,
     left: u64,
+    carry: u64,
     own: u64,
     limit: u32,
     before: u32,
 ) -> u32
-    requires { ⌜ (own < 2 ^ 40) × (limit < 2 ^ 23) ⌝ }
-    ensures { λ r. ⌜ (r ≡ timeFor (record { jobs = jobs; shares = shares }) (has above) left own limit before) × (r ≤ limit) × ((r ≡ 0 → ⊥) → before ≤ r) ⌝ }
+    requires { ⌜ (carry ≤ 2 ^ 43) × (own < 2 ^ 40) × (limit < 2 ^ 22) ⌝ }
+    ensures { λ r. ⌜ (r ≡ timeFor (record { jobs = jobs; shares = shares }) (has above) left carry own limit before) × (r ≤ limit) × ((r ≡ 0 → ⊥) → before ≤ r) ⌝ }
 {
     let mut t: u64 = 1;
     if own != 0 {
         if left == 0 {
             return 0;
         }
-        t = own * WHOLE / left;
+        t = (own * WHOLE + carry) / left;
     }
     t = later(t, before as u64);
     let late = limit as u64 + 1;

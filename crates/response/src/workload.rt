@@ -4,7 +4,7 @@ ghost use Prim.Native.Nat.{_^_, _<_, _≤_};
 ghost use Rattle.sets.specs.Sets.{has};
 ghost use Rattle.records.specs.Limits.{mostJobs};
 ghost use Rattle.response.specs.Demand.{lesser};
-ghost use Rattle.response.specs.Search.{whole, utilisation, plainWorkload, workload, load, free, firstDecides, boundBy};
+ghost use Rattle.response.specs.Search.{whole, utilisation, plainWorkload, workload, free, carried, firstDecides, boundBy};
 use crate::blocked;
 use crate::demand;
 use crate::instances;
@@ -35,30 +35,35 @@ fn utilisation(job: Job) -> u32
     share as u32
 }
 
-// The utilisation of a set of jobs.
-fn load(shares: [u32; Job::MOST], set: u8) -> u64
-    ensures { λ r. ⌜ (r ≡ load shares (has set)) × (r ≤ 2 ^ 35) ⌝ }
+// What a set of jobs leaves of the processor, and what their delays add at least to their work, in parts of a tick.
+pub(crate) struct Spare {
+    pub left: u64,
+    pub carry: u64,
+}
+
+// The same, in one pass over the places.
+pub(crate) fn spare_of(jobs: [Job; Job::MOST], shares: [u32; Job::MOST], set: u8) -> Spare
+    ensures { λ r. ⌜ (r .left ≡ free shares (has set)) × (r .left ≤ whole) × (r .carry ≡ carried (record { jobs = jobs; shares = shares }) (has set)) × (r .carry ≤ 2 ^ 43) ⌝ }
 {
-    let mut sum: u64 = 0;
+    let mut taken: u64 = 0;
+    let mut carry: u64 = 0;
     let mut i = 0;
     while i < Job::MOST {
         if sets::contains(set, i) {
-            sum += shares[i] as u64;
+            let job = jobs[i];
+            let share = shares[i] as u64;
+            taken += share;
+            carry += (job.delay as u64) * share;
         }
         i += 1;
     }
-    sum
-}
-
-// What a set of jobs leaves of the processor.
-pub(crate) fn free(shares: [u32; Job::MOST], set: u8) -> u64
-    ensures { λ r. ⌜ (r ≡ free shares (has set)) × (r ≤ whole) ⌝ }
-{
-    let taken = load(shares, set);
     if WHOLE <= taken {
-        return 0;
+        return Spare { left: 0, carry };
     }
-    WHOLE - taken
+    Spare {
+        left: WHOLE - taken,
+        carry,
+    }
 }
 
 // Whether the first bound is the bound, for a reason that is known without the second.

@@ -168,6 +168,15 @@ over-scale (suc n) t s f =
     at true = refl
     at false = sym (mul-zero t)
 
+pub over-plus : (n : ℕ) (s : Set) (f g : ℕ → ℕ) → sumOver n s (λ i. f i + g i) ≡ sumOver n s f + sumOver n s g
+unfolding sumOver sum
+over-plus zero s f g = refl
+over-plus (suc n) s f g = omega (arith, over-plus n s f g, at (s n))
+  where
+    at : (b : Bool) → cond b (f n + g n) 0 ≡ cond b (f n) 0 + cond b (g n) 0
+    at true = refl
+    at false = refl
+
 -- The places of a set that pass a test, and the others.
 pub over-split : (n : ℕ) (s test : Set) (f : ℕ → ℕ) → sumOver n s f ≡ sumOver n (λ i. s i && not (test i)) f + sumOver n (λ i. s i && test i) f
 unfolding sumOver sum

@@ -1,5 +1,5 @@
 use Prim.Native.Nat.{ℕ}
-use mathlib.Core.Path.{_≡_, sym, _∙_, ap}
+use mathlib.Core.Path.{_≡_, sym, _∙_, ap, ap₂}
 use Rattle.sets.specs.Sets.{has}
 use Rattle.response.specs.Search.{Table, free, runsOn, largestBy}
 use Rattle.response.proofs.Utilisation.{run-stops, run-runs}
@@ -7,8 +7,8 @@ use borrow.Author.Needs.{needs}
 use Rattle.response.proofs.instances.run_bound.Statement.{statement}
 use Rattle.response.proofs.instances.run_bound.Tie as tie
 
-free-requires : tie.Need-free-requires
-free-requires c κs = search needs
+spare-of-requires : tie.Need-spare-of-requires
+spare-of-requires c κs = search needs
 
 runs-on-requires : tie.Need-runs-on-requires
 runs-on-requires c κs = search needs
@@ -22,7 +22,7 @@ module _ (c : tie.After-runs-on) where
   table = record { jobs = start .args .jobs; shares = start .args .shares }
 
   runs : c .runs-on .result ≡ runsOn (free (start .args .shares) (has (start .args .above))) (start .args .quantum) (start .args .others) (start .args .job)
-  runs = c .runs-on .ensures ∙ ap (λ (left : ℕ). runsOn left (start .args .quantum) (start .args .others) (start .args .job)) (c .before .free .ensures .0)
+  runs = c .runs-on .ensures ∙ ap (λ (left : ℕ). runsOn left (start .args .quantum) (start .args .others) (start .args .job)) (c .before .spare-of .ensures .0)
 
 returns : tie.Need-returns
 returns c =
@@ -37,9 +37,10 @@ returns-2 c =
     let r = c .before .before in
     let a = start r .args in
     c .largest-response .ensures
-    ∙ ap (λ (left : ℕ). largestBy (table r) (has (a .above)) left (a .quantum) (a .others) (a .job)) (r .before .free .ensures .0)
+    ∙ ap₂ (λ (left carry : ℕ). largestBy (table r) (has (a .above)) left carry (a .quantum) (a .others) (a .job)) (r .before .spare-of .ensures .0) (r .before .spare-of .ensures .2)
     ∙ sym (run-runs (table r) (has (a .above)) (a .quantum) (a .others) (a .job) (sym (runs r) ∙ c .before .if1 .left))
 
 pub run-bound-spec : {M : Type 1} → statement M
 run-bound-spec =
-    tie.close (tie.spec free-requires runs-on-requires returns largest-response-requires returns-2)
+    tie.close
+    (tie.spec spare-of-requires runs-on-requires returns largest-response-requires returns-2)

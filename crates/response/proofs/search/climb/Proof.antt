@@ -16,18 +16,18 @@ use Rattle.response.proofs.search.climb.Tie as tie
 abbrev demand : List Job → ℕ → ℕ → ℕ → ℕ → ℕ
 demand jobs long short own t = own + interference jobs (has long) t + interference jobs (has short) t
 
-abbrev estimate : List Job → ℕ → ℕ → ℕ → ℕ → ℕ
-estimate jobs long left own t = (own + interference jobs (has long) t) * whole / left
+abbrev estimate : List Job → ℕ → ℕ → ℕ → ℕ → ℕ → ℕ
+estimate jobs long left carry own t = ((own + interference jobs (has long) t) * whole + carry) / left
 
 -- What is sought is what the iteration finds from t on, and t is not before the start.
 abbrev Inv-loop : tie.InvT-loop
-Inv-loop jobs long short left own limit start end t₀ t =
-    (climb (demand jobs long short own) (estimate jobs long left own) limit (suc limit) start
-    ≡ climb (demand jobs long short own) (estimate jobs long left own) limit (suc limit) t)
+Inv-loop jobs long short left carry own limit start end t₀ t =
+    (climb (demand jobs long short own) (estimate jobs long left carry own) limit (suc limit) start
+    ≡ climb (demand jobs long short own) (estimate jobs long left carry own) limit (suc limit) t)
     × (start ≤ t)
 
 abbrev μ-loop : tie.MeasureT-loop
-μ-loop jobs long short left own limit start end t₀ t = limit + 1 - t
+μ-loop jobs long short left carry own limit start end t₀ t = limit + 1 - t
 
 add-end : tie.Need-add-end Inv-loop μ-loop
 add-end c = search needs
@@ -44,7 +44,7 @@ module _ (c : tie.After-works-of Inv-loop μ-loop) where
   f = let a = c .before .before .before .args in demand (a .jobs) (a .long) (a .short) (a .own)
 
   abbrev g : ℕ → ℕ
-  g = let a = c .before .before .before .args in estimate (a .jobs) (a .long) (a .left) (a .own)
+  g = let a = c .before .before .before .args in estimate (a .jobs) (a .long) (a .left) (a .carry) (a .own)
 
   part : c .before .before .before .args .own + c .works-of .result .long ≡ c .before .before .before .args .own + interference (c .before .before .before .args .jobs) (has (c .before .before .before .args .long)) t
   part = ap (λ (x : ℕ). c .before .before .before .args .own + x) (c .works-of .ensures .0)
@@ -79,7 +79,11 @@ returns-2 c =
 
 mul-later : tie.Need-mul-later Inv-loop μ-loop
 mul-later c =
-    let p = c .before .before .before in omega (arith, p .works-of .ensures .2, p .before .before .before .pre .1)
+    let p = c .before .before .before in omega (arith, p .works-of .ensures .2, p .before .before .before .pre .2)
+
+add-later : tie.Need-add-later Inv-loop μ-loop
+add-later c =
+    let p = c .before .before .before in omega (arith, p .works-of .ensures .2, p .before .before .before .pre .1, p .before .before .before .pre .2)
 
 div-later : tie.Need-div-later Inv-loop μ-loop
 div-later c = search needs
@@ -96,7 +100,7 @@ loop-again c =
     let p = c .before .before .before .before in
     let l = p .before .before .loop in
     let a = p .before .before .before .args in
-    let moved : c .later .result ≡ max (f p (t p)) (g p (t p)) = c .later .ensures ∙ ap₂ max (next p) (ap (λ (x : ℕ). x * whole / a .left) (part p)) in (
+    let moved : c .later .result ≡ max (f p (t p)) (g p (t p)) = c .later .ensures ∙ ap₂ max (next p) (ap (λ (x : ℕ). (x * whole + a .carry) / a .left) (part p)) in (
       l .inv .0
           ∙ loop-rises (f p) (g p) _ (omega (arith, p .before .loop-test .taken)) (omega (arith, next p, c .before .if1 .left))
           ∙ sym (ap (climb (f p) (g p) (a .limit) (suc (a .limit))) moved),
@@ -122,6 +126,7 @@ climb-spec =
     returns
     returns-2
     mul-later
+    add-later
     div-later
     later-requires
     loop-less

@@ -7,9 +7,9 @@ use Rattle.sets.specs.Sets.{has}
 use Rattle.records.specs.Limits.{mostJobs}
 use Rattle.records.specs.Jobs.{jobAt}
 use Rattle.response.specs.Demand.{interference}
-use Rattle.response.specs.Search.{whole, free, climb, shortOf, longOf, estimate, shortPart, farTime}
+use Rattle.response.specs.Search.{Table, whole, free, carried, climb, shortOf, longOf, estimate, shortPart, farTime}
 use Rattle.response.proofs.Easier.{interference-same, interference-split}
-use Rattle.response.proofs.Loops.{long-part, short-part, free-same}
+use Rattle.response.proofs.Loops.{long-part, short-part, free-same, carried-same}
 use borrow.Author.Needs.{needs}
 use Rattle.response.proofs.search.far_time.Statement.{statement}
 use Rattle.response.proofs.search.far_time.Tie as tie
@@ -23,14 +23,14 @@ rest-requires c κs = search needs
 rest-requires-2 : tie.Need-rest-requires-2
 rest-requires-2 c κs = search needs
 
-free-requires : tie.Need-free-requires
-free-requires c κs = search needs
+spare-of-requires : tie.Need-spare-of-requires
+spare-of-requires c κs = search needs
 
 later-requires : tie.Need-later-requires
 later-requires c κs = search needs
 
 climb-requires : tie.Need-climb-requires
-climb-requires c κs = (omega (arith, c .later .ensures), search needs, search needs)
+climb-requires c κs = (omega (arith, c .later .ensures), search needs, search needs, search needs)
 
 returns : tie.Need-returns
 unfolding farTime estimate
@@ -52,10 +52,13 @@ returns c =
       interference-same jobs _ (shortOf jobs (has (a .above)) longest) t (λ i l. short i (omega arith)),
       interference-split jobs (has (a .above)) (λ i. leb (jobAt jobs i .period) longest) t,
     ) in
+    let w : Table = record { jobs = a .jobs; shares = a .shares } in
     let left : c .before .later .result ≡ max 1 (free shares (shortOf jobs (has (a .above)) longest)) =
-    c .before .later .ensures ∙ ap (max 1) (v .free .ensures .0 ∙ free-same shares _ _ (λ i l. short i (omega arith))) in
-    let g : (t : ℕ) → (a .own + interference jobs (has (v .before .before .rest .result)) t) * whole / c .before .later .result ≡ estimate (record { jobs = a .jobs; shares = a .shares }) (has (a .above)) longest (a .own) t =
-    λ t. ap₂ (λ (x y : ℕ). (a .own + x) * whole / y) (interference-same jobs _ (longOf jobs (has (a .above)) longest) t (λ i l. long i (omega arith))) left in
+    c .before .later .ensures ∙ ap (max 1) (v .spare-of .ensures .0 ∙ free-same shares _ _ (λ i l. short i (omega arith))) in
+    let carry : v .spare-of .result .carry ≡ carried w (shortOf jobs (has (a .above)) longest) =
+    v .spare-of .ensures .2 ∙ carried-same w _ _ (λ i l. short i (omega arith)) in
+    let g : (t : ℕ) → ((a .own + interference jobs (has (v .before .before .rest .result)) t) * whole + v .spare-of .result .carry) / c .before .later .result ≡ estimate w (has (a .above)) longest (a .own) t =
+    λ t. ap₂ (λ (x y : ℕ). x / y) (ap₂ (λ (x y : ℕ). (a .own + x) * whole + y) (interference-same jobs _ (longOf jobs (has (a .above)) longest) t (λ i l. long i (omega arith))) carry) left in
     (c .climb .ensures .0 ∙ ap₂ (λ (f g : ℕ → ℕ). climb f g (a .limit) (suc (a .limit)) (a .start)) (fun-ext f) (fun-ext g), c .climb .ensures .1, c .climb .ensures .2)
 
 pub far-time-spec : {M : Type 1} → statement M
@@ -65,7 +68,7 @@ far-time-spec =
     short-jobs-requires
     rest-requires
     rest-requires-2
-    free-requires
+    spare-of-requires
     later-requires
     climb-requires
     returns)

@@ -17,22 +17,25 @@ table jobs shares = record { jobs = jobs; shares = shares }
 
 -- What is sought is what is found from t on after the plain steps that are left, and t is not before `before`.
 abbrev Inv-loop : tie.InvT-loop
-Inv-loop jobs shares above left own limit before t₀ late step₀ t step =
+Inv-loop jobs shares above left carry own limit before t₀ late step₀ t step =
     (step ≤ plainSteps)
-    × (timeFor (table jobs shares) (has above) left own limit before
+    × (timeFor (table jobs shares) (has above) left carry own limit before
     ≡ farTime (table jobs shares) (has above) own limit (steps (λ x. own + interference jobs (has above) x) limit (plainSteps - step) t))
     × (before ≤ t)
 
 abbrev μ-loop : tie.MeasureT-loop
-μ-loop jobs shares above left own limit before t₀ late step₀ t step = plainSteps - step
+μ-loop jobs shares above left carry own limit before t₀ late step₀ t step = plainSteps - step
 
 returns : tie.Need-returns Inv-loop μ-loop
 returns c =
     let a = c .before .before .args in
-    (sym (time-full (table (a .jobs) (a .shares)) (has (a .above)) (a .left) (a .own) (a .limit) (a .before) (c .before .if1 .taken) (c .if2 .taken)), omega arith, λ e. absurd (omega arith))
+    (sym (time-full (table (a .jobs) (a .shares)) (has (a .above)) (a .left) (a .carry) (a .own) (a .limit) (a .before) (c .before .if1 .taken) (c .if2 .taken)), omega arith, λ e. absurd (omega arith))
 
 mul-t : tie.Need-mul-t Inv-loop μ-loop
 mul-t c = search needs
+
+add-t : tie.Need-add-t Inv-loop μ-loop
+add-t c = search needs
 
 div-t : tie.Need-div-t Inv-loop μ-loop
 div-t c = search needs
@@ -52,8 +55,8 @@ loop-holds c =
     let start : ℕ → ℕ = timeFrom w (has (a .above)) (a .own) (a .limit) in (
       omega arith,
       ⊎-elim
-          (λ v. time-start w (has (a .above)) (a .left) (a .own) (a .limit) (a .before) (v .0 .taken) (v .1 .left) ∙ sym (ap start (l .ensures ∙ ap (λ (x : ℕ). max x (a .before)) (v .2))))
-          (λ v. time-idle w (has (a .above)) (a .left) (a .own) (a .limit) (a .before) (v .0 .left) ∙ sym (ap start (l .ensures ∙ ap (λ (x : ℕ). max x (a .before)) (v .1))))
+          (λ v. time-start w (has (a .above)) (a .left) (a .carry) (a .own) (a .limit) (a .before) (v .0 .taken) (v .1 .left) ∙ sym (ap start (l .ensures ∙ ap (λ (x : ℕ). max x (a .before)) (v .2))))
+          (λ v. time-idle w (has (a .above)) (a .left) (a .carry) (a .own) (a .limit) (a .before) (v .0 .left) ∙ sym (ap start (l .ensures ∙ ap (λ (x : ℕ). max x (a .before)) (v .1))))
           (c .before .if1 .came),
       omega (arith, l .ensures),
     )
@@ -155,6 +158,7 @@ time-for-spec =
     μ-loop
     returns
     mul-t
+    add-t
     div-t
     later-requires
     add-late
