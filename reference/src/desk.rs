@@ -4,7 +4,8 @@ use crate::jobs::{judge_table_count, judge_times, Job};
 use crate::refusal::Refusal;
 
 /// Entry 9: "C, T and D of that entry change, its id and the other entries stay. This call checks
-/// only refusals 1 (on the table's count), 4 and 5; entries it doesn't edit are not judged."
+/// only refusals 1 (on the table's count), 4 and 5; entries it doesn't edit are not judged." The
+/// lent table carries J, and "an edit keeps it".
 pub fn edit(
     jobs: &mut [Job],
     place: usize,
@@ -17,10 +18,10 @@ pub fn edit(
         return Err(Refusal::EditPlace);
     }
     let edited = Job {
-        id: jobs[place].id,
         cost,
         period,
         deadline,
+        ..jobs[place]
     };
     judge_times(&[edited])?;
     jobs[place] = edited;

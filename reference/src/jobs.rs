@@ -14,11 +14,12 @@ pub const LONGEST_DEADLINE: u16 = 60_000;
 /// "Job, 8 bytes".
 pub const JOB_BYTES: usize = 8;
 
-/// "id (1 to 255), a zero byte, cost C, period T, deadline D (two bytes each)". The default is the
-/// blank entry, all of whose numbers are 0.
+/// "id (1 to 255)", by E4 "the delay J, 0 to 255 ticks", "cost C, period T, deadline D (two bytes
+/// each)". The default is the blank entry, all of whose numbers are 0.
 #[derive(Clone, Copy, Debug, Default, PartialEq, Eq)]
 pub struct Job {
     pub id: u8,
+    pub delay: u8,
     pub cost: u16,
     pub period: u16,
     pub deadline: u16,
@@ -32,24 +33,25 @@ pub fn two_byte_number(high: u8, low: u8) -> u16 {
     u16::from(high) * 256 + u16::from(low)
 }
 
-/// The job of an 8-byte record, whatever its second byte.
+/// The job of an 8-byte record: "The job record's second byte becomes the delay J".
 pub fn job_of_record(record: &[u8]) -> Job {
     Job {
         id: record[0],
+        delay: record[1],
         cost: two_byte_number(record[2], record[3]),
         period: two_byte_number(record[4], record[5]),
         deadline: two_byte_number(record[6], record[7]),
     }
 }
 
-/// The 8-byte record of a job, with a zero second byte.
+/// The 8-byte record of a job.
 pub fn record_of_job(job: &Job) -> [u8; JOB_BYTES] {
     let [cost_high, cost_low] = job.cost.to_be_bytes();
     let [period_high, period_low] = job.period.to_be_bytes();
     let [deadline_high, deadline_low] = job.deadline.to_be_bytes();
     [
         job.id,
-        0,
+        job.delay,
         cost_high,
         cost_low,
         period_high,
@@ -76,17 +78,7 @@ pub fn judge_table_count(count: usize) -> Result<(), Refusal> {
     Ok(())
 }
 
-/// Refusal 2 of a block: "A job's id is 0 or its second byte is not 0."
-pub fn judge_record_identity(block: &[u8]) -> Result<(), Refusal> {
-    for record in block.chunks_exact(JOB_BYTES) {
-        if record[0] == 0 || record[1] != 0 {
-            return Err(Refusal::JobIdentity);
-        }
-    }
-    Ok(())
-}
-
-/// Refusal 2 of a table, which has no second byte: "A job's id is 0".
+/// Refusal 2: "A job's id is 0". By E4 it "concerns the id alone": every delay is accepted.
 pub fn judge_identity(jobs: &[Job]) -> Result<(), Refusal> {
     if jobs.iter().any(|job| job.id == 0) {
         return Err(Refusal::JobIdentity);
@@ -123,8 +115,8 @@ pub fn judge_times(jobs: &[Job]) -> Result<(), Refusal> {
 /// The jobs of a block, refusals 1, 2, 3 and 5 being "sought through all records" one by one.
 pub fn jobs_of_block(block: &[u8]) -> Result<Vec<Job>, Refusal> {
     judge_block_length(block)?;
-    judge_record_identity(block)?;
     let jobs: Vec<Job> = block.chunks_exact(JOB_BYTES).map(job_of_record).collect();
+    judge_identity(&jobs)?;
     judge_order(&jobs)?;
     judge_times(&jobs)?;
     Ok(jobs)

@@ -1,5 +1,5 @@
-//! The entries of the scope document with its change requests E1 and E2 as plain functions, written
-//! by direct reading and exhaustive search, and the generation of cases with their expected
+//! The entries of the scope document with its change requests E1, E2 and E4 as plain functions,
+//! written by direct reading and exhaustive search, and the generation of cases with their expected
 //! answers.
 
 pub mod configuration;

@@ -7,7 +7,7 @@ pub enum Refusal {
     /// "The job block is empty, over 64 bytes or not a multiple of 8, or a table has 0 or more
     /// than 8 jobs."
     JobCount = 1,
-    /// "A job's id is 0 or its second byte is not 0."
+    /// "A job's id is 0"; by E4 it "concerns the id alone".
     JobIdentity = 2,
     /// "A job's id is not above the one before."
     JobOrder = 3,

@@ -3,7 +3,7 @@
 //!
 //! Times and demands are eight-byte numbers. A time is at most 64 * 60,000 and so is an instance's
 //! own work. A layer's demand is at most that work times 1 + 7 * 64, and a job above adds at most
-//! t + T, as its C is at most its T.
+//! t + J + T, as its C is at most its T.
 
 use crate::configuration::{jobs_and_settings, Setting, FIFO, NOT_PLACED, ROUND_ROBIN};
 use crate::jobs::Job;
@@ -18,11 +18,11 @@ pub const INSTANCES: u64 = 64;
 /// How the run of a job's instances ends.
 #[derive(Clone, Copy, Debug, PartialEq, Eq)]
 pub enum End {
-    /// The last instance is "the first instance that finishes by (j+1)·T".
+    /// The last instance is the first whose "finish plus J is by (j+1)·T".
     Closed,
     /// Of the last instance, "a response exceeds D" or "a finish doesn't exist".
     OverDeadline,
-    /// "instance 63 is reached and still runs past 64·T".
+    /// "instance 63 is reached", and it "counts as running past 64·T when its finish plus J does".
     StillRunning,
 }
 
@@ -41,7 +41,8 @@ pub struct Run {
 impl Run {
     /// "The bound is the largest response up to the first instance that finishes by (j+1)·T. If a
     /// response exceeds D, a finish doesn't exist, or instance 63 is reached and still runs past
-    /// 64·T, the bound is 0." No response of a closed run exceeds D, so it fits in two bytes.
+    /// 64·T, the bound is 0." By E4 "finish plus J" stands for the finish here. No response of a
+    /// closed run exceeds D, so it fits in two bytes.
     pub fn bound(&self) -> u16 {
         match self.end {
             End::Closed => self.largest_response as u16,
@@ -67,9 +68,11 @@ pub fn round_robin_demand(own_work: u64, quantum: u8, other_quanta: u64) -> u64 
     own_work + cycles * other_quanta
 }
 
-/// "t divided by that job's T, rounded up, times that job's C".
+/// "t + J divided by its T, rounded up, as in equation (10) of source document 004", "times that
+/// job's C". J and T are those of the job above.
 pub fn interference(above: &Job, time: u64) -> u64 {
-    time.div_ceil(u64::from(above.period)) * u64::from(above.cost)
+    let releases = (time + u64::from(above.delay)).div_ceil(u64::from(above.period));
+    releases * u64::from(above.cost)
 }
 
 /// The interference of all jobs above.
@@ -78,7 +81,7 @@ pub fn total_interference(above: &[Job], time: u64) -> u64 {
 }
 
 /// The demand of the job's own layer on own work: the work, and for policy 2 the cycles of the
-/// layer's others.
+/// layer's others. Delays play no part in it.
 pub fn layer_demand(settings: &[Setting], index: usize, own_work: u64) -> u64 {
     let own = &settings[index];
     if own.policy == FIFO {
@@ -120,8 +123,9 @@ pub fn neighbours(jobs: &[Job], settings: &[Setting], index: usize) -> Vec<Job> 
 /// `finish_between` answers, for such a demand, the least t from an earliest to a latest one that
 /// equals it plus the interference.
 ///
-/// The search for a finish stops at j·T + D, since a later finish makes the response exceed D, and
-/// the bound is 0 then as it is if "a finish doesn't exist".
+/// The search for a finish stops at j·T + D - J, since a later finish makes the response exceed D,
+/// and the bound is 0 then as it is if "a finish doesn't exist". If J exceeds j·T + D, no t is
+/// tried.
 ///
 /// The search starts at the finish of the instance before. Demand less t is not below 0 at t = 1
 /// and falls by at most 1 from one t to the next, so before the least t that equals the demand it
@@ -133,6 +137,7 @@ pub fn run_of_job(
     mut finish_between: impl FnMut(u64, u64, u64) -> Option<u64>,
 ) -> Run {
     let (period, deadline) = (u64::from(job.period), u64::from(job.deadline));
+    let delay = u64::from(job.delay);
     let mut run = Run {
         end: End::StillRunning,
         last_instance: 0,
@@ -145,14 +150,16 @@ pub fn run_of_job(
         let release = instance * period;
         let demand = layer_demand((instance + 1) * u64::from(job.cost));
         let earliest = run.finish.max(1);
-        let Some(finish) = finish_between(demand, earliest, release + deadline) else {
+        let latest = (release + deadline).saturating_sub(delay);
+        let Some(finish) = finish_between(demand, earliest, latest) else {
             run.end = End::OverDeadline;
             return run;
         };
-        // "Its response is that finish less j·T."
-        run.note(finish, finish - release);
+        // "Its response is that finish less j·T", and it gains J. The finish alone may be before
+        // j·T; with J it is after, as the instance before has a smaller finish and is still open.
+        run.note(finish, finish + delay - release);
         // "by (j+1)·T" is at that time or before it.
-        if finish <= release + period {
+        if finish + delay <= release + period {
             run.end = End::Closed;
             return run;
         }
@@ -194,7 +201,8 @@ pub fn first_run(jobs: &[Job], settings: &[Setting], index: usize, find: FindFin
 }
 
 /// The run that settles a policy 2 job's second bound, which "counts every other job of its layer
-/// as if it were above". Quanta play no part in it: the job is as if alone on its level.
+/// as if it were above", with its J as a job above has. Quanta play no part in it: the job is as if
+/// alone on its level.
 pub fn second_run(jobs: &[Job], settings: &[Setting], index: usize, find: FindFinish) -> Run {
     let mut above = jobs_above(jobs, settings, index);
     above.extend(neighbours(jobs, settings, index));

@@ -2,7 +2,7 @@
 
 mod common;
 
-use common::{first_bounds, job_block, marked, planned, Times};
+use common::{delayed_jobs, first_bounds, job_block, marked, planned, Times};
 use reference::response_time::round_robin_demand;
 use reference::{bounds, edit, plan, read_jobs, same_bytes, Refusal};
 
@@ -84,10 +84,11 @@ fn unequal_lengths_are_not_the_same_bytes_and_empty_blocks_are() {
 }
 
 #[test]
-fn an_edit_leaves_the_id_and_the_other_entries() {
-    let mut jobs = common::jobs(&[(0, 0, 0), (6, 8, 8), (9, 1, 5)]);
+fn an_edit_leaves_the_id_the_delay_and_the_other_entries() {
+    let jobs_with = |edited| delayed_jobs(&[((0, 0, 0), 255), (edited, 3), ((9, 1, 5), 0)]);
+    let mut jobs = jobs_with((6, 8, 8));
     assert_eq!(edit(&mut jobs, 1, 5, 60_000, 7), Ok(()));
-    assert_eq!(jobs, common::jobs(&[(0, 0, 0), (5, 60_000, 7), (9, 1, 5)]));
+    assert_eq!(jobs, jobs_with((5, 60_000, 7)));
 }
 
 #[test]

@@ -2,7 +2,7 @@
 
 mod common;
 
-use common::job_block;
+use common::{block_of_jobs, delayed_jobs, job_block};
 use reference::frames::{answer, Frame, BOUNDS, EDIT, KEY, MARK, PLAN, READ_CONFIGURATION};
 use reference::frames::{Input, READ_JOBS, SAME_BYTES, WRITE_CONFIGURATION, WRITE_JOBS};
 
@@ -53,6 +53,34 @@ fn readers_and_writers() {
     assert_eq!(
         answer(&frame(WRITE_CONFIGURATION)),
         expected(&[(1, &[8]), (4, &settings)])
+    );
+}
+
+#[test]
+fn records_of_jobs_have_the_delay_in_their_second_byte() {
+    let block = block_of_jobs(&delayed_jobs(&[((6, 8, 8), 0), ((5, 22, 22), 2)]));
+    assert_eq!(block[9], 2);
+    let with_delay = |entry| {
+        let mut frame = frame(entry);
+        frame[17] = 2;
+        frame
+    };
+    assert_eq!(
+        answer(&with_delay(READ_JOBS)),
+        expected(&[(1, &[2]), (116, &block)])
+    );
+    assert_eq!(
+        answer(&with_delay(WRITE_JOBS)),
+        expected(&[(1, &[16]), (4, &block)])
+    );
+    assert_eq!(
+        answer(&with_delay(BOUNDS)),
+        expected(&[(4, &[0, 8, 0, 22])])
+    );
+    // The edit is refused, and the table holds the slice as it was.
+    assert_eq!(
+        answer(&with_delay(EDIT)),
+        expected(&[(0, &[4]), (116, &block)])
     );
 }
 

@@ -2,21 +2,24 @@
 
 mod common;
 
+use common::readings::{bound_with_delays, READINGS_OF_DELAYS};
 use common::{bound_instance_by_instance, bound_numbers};
 use reference::configuration::{
     put_settings, QuantumRange, Setting, NOT_PLACED, ROUND_ROBIN, SETTING_BYTES,
 };
 use reference::frames::{
-    answer, Frame, Input, BOUNDS, EDIT, KEY, MARK, PLAN, SAME_BYTES, WRITE_JOBS,
+    answer, Frame, Input, BOUNDS, EDIT, KEY, MARK, PLAN, READ_CONFIGURATION, READ_JOBS, SAME_BYTES,
+    WRITE_CONFIGURATION, WRITE_JOBS,
 };
+use reference::generation::effects::Effect;
 use reference::generation::long_deadlines::{finish_by_recurrence, has_long_deadline};
 use reference::generation::present::faults_present;
 use reference::generation::situations::two_bounds;
 use reference::generation::summary::Summary;
 use reference::generation::{
-    cases, input_of_case, FIRST_LIGHT_NEIGHBOUR_CASE, FIRST_LONG_DEADLINE_CASE,
+    cases, input_of_case, FIRST_DELAY_CASE, FIRST_LIGHT_NEIGHBOUR_CASE, FIRST_LONG_DEADLINE_CASE,
 };
-use reference::jobs::Job;
+use reference::jobs::{Job, JOB_BYTES};
 use reference::key::text_of_plan;
 use reference::planner::{plan_jobs_within, Plan};
 use reference::response_time::{
@@ -28,7 +31,13 @@ use std::sync::OnceLock;
 /// The stored cases.
 fn stored() -> &'static [(Frame, Frame)] {
     static CASES: OnceLock<Vec<(Frame, Frame)>> = OnceLock::new();
-    CASES.get_or_init(|| cases(1, 6300))
+    CASES.get_or_init(|| cases(1, 7200))
+}
+
+/// What the stored cases hold.
+fn summary() -> &'static Summary {
+    static SUMMARY: OnceLock<Summary> = OnceLock::new();
+    SUMMARY.get_or_init(|| Summary::of_cases(stored()))
 }
 
 fn stored_inputs() -> Vec<(Input, &'static Frame)> {
@@ -40,7 +49,7 @@ fn stored_inputs() -> Vec<(Input, &'static Frame)> {
 
 #[test]
 fn minimums_by_entry_and_refusal() {
-    let summary = Summary::of_cases(stored());
+    let summary = summary();
     for (number, entry) in summary.entries.iter().enumerate().skip(1) {
         assert!(entry.accepted >= 50, "entry {number}: {entry:?}");
         let has_refusals = number != usize::from(SAME_BYTES);
@@ -70,7 +79,7 @@ fn minimums_by_entry_and_refusal() {
 
 #[test]
 fn minimums_of_the_planner() {
-    let plans = Summary::of_cases(stored()).plans;
+    let plans = &summary().plans;
     assert!(plans.placed_alone >= 60, "{plans:?}");
     assert!(
         plans.placed_in_pairs + plans.placed_in_larger_layers >= 100,
@@ -90,7 +99,7 @@ fn minimums_of_the_planner() {
 
 #[test]
 fn minimums_of_runs() {
-    let [bounds, mark, plan] = Summary::of_cases(stored()).long_deadlines.entries;
+    let [bounds, mark, plan] = summary().long_deadlines.entries;
     for counts in [bounds, mark] {
         assert!(counts.cases >= 150, "{counts:?}");
         assert!(counts.closed_at_first >= 50, "{counts:?}");
@@ -117,7 +126,7 @@ fn minimums_of_runs() {
 
 #[test]
 fn minimums_of_situations() {
-    let [bounds, mark, plan] = Summary::of_cases(stored()).light_neighbours.entries;
+    let [bounds, mark, plan] = summary().light_neighbours.entries;
     for counts in [bounds, mark] {
         assert!(counts.cases >= 300, "{counts:?}");
         assert!(counts.jobs.iter().all(|count| *count >= 60), "{counts:?}");
@@ -131,6 +140,100 @@ fn minimums_of_situations() {
     assert!(plan.cases >= 20, "{plan:?}");
 }
 
+#[test]
+fn minimums_of_lists_with_delays() {
+    let delays = &summary().delays;
+    for (entry, least) in [
+        (READ_JOBS, 25),
+        (WRITE_JOBS, 25),
+        (READ_CONFIGURATION, 15),
+        (WRITE_CONFIGURATION, 15),
+        (BOUNDS, 200),
+        (MARK, 150),
+        (PLAN, 150),
+        (EDIT, 35),
+        (KEY, 30),
+    ] {
+        let lists = delays.lists[usize::from(entry)];
+        assert!(lists >= least, "entry {entry}: {lists} lists");
+    }
+    for entry in [BOUNDS, MARK, PLAN, KEY].map(usize::from) {
+        let (lists, mattering) = (delays.lists[entry], delays.mattering[entry]);
+        assert!(10 * mattering >= 9 * lists, "{mattering} of {lists}");
+    }
+}
+
+#[test]
+fn minimums_of_effects_of_delays() {
+    let [bounds, mark, plan] = summary().delays.entries;
+    for counts in [bounds, mark] {
+        assert!(counts.jobs >= 500, "{counts:?}");
+        assert!(counts.longest >= 50, "{counts:?}");
+        assert!(
+            counts.effects.iter().all(|count| *count >= 10),
+            "{counts:?}"
+        );
+    }
+    let [bounds, mark, _] = summary().delayed_neighbours.entries;
+    for counts in [bounds, mark] {
+        assert!(counts.jobs.iter().all(|count| *count >= 5), "{counts:?}");
+    }
+    assert!(mark.passing_by_second >= 10, "{mark:?}");
+    assert!(plan.jobs >= 300 && plan.longest >= 15, "{plan:?}");
+    assert!(
+        plan.effects[Effect::RaisedByAbove as usize] >= 80,
+        "{plan:?}"
+    );
+    assert!(plan.effects[Effect::KeptOpen as usize] >= 50, "{plan:?}");
+}
+
+#[test]
+fn plans_of_lists_with_delays_have_every_outcome() {
+    let mut outcomes = [0; 3];
+    for (input, output) in &stored_inputs()[FIRST_DELAY_CASE..] {
+        if input.entry == PLAN && output[0] == 0 {
+            let whole = (1_u16 << input.job_slice().len()) - 1;
+            outcomes[match u16::from(output[1]) {
+                0 => 0,
+                placed if placed < whole => 1,
+                _ => 2,
+            }] += 1;
+        }
+    }
+    assert!(outcomes.iter().all(|count| *count >= 20), "{outcomes:?}");
+}
+
+#[test]
+fn lists_have_delays_where_they_are_meant_to() {
+    for (case, (input, _)) in stored_inputs().iter().enumerate() {
+        let jobs = match input.entry {
+            SAME_BYTES => Vec::new(),
+            _ => input.job_slice(),
+        };
+        let delayed = jobs.iter().filter(|job| job.delay != 0).count();
+        if case < FIRST_DELAY_CASE {
+            let may_be = !matches!(input.entry, WRITE_JOBS | EDIT);
+            assert!(delayed <= usize::from(may_be), "case {case}");
+        } else {
+            assert!(delayed > 0 || jobs.is_empty(), "case {case}");
+        }
+    }
+}
+
+#[test]
+fn edits_keep_the_delays_of_all_jobs() {
+    let mut kept = 0;
+    for (input, output) in stored_inputs() {
+        if input.entry == EDIT {
+            for (index, job) in input.job_slice().iter().enumerate() {
+                assert_eq!(output[117 + JOB_BYTES * index], job.delay);
+                kept += usize::from(output[0] == 0 && job.delay != 0);
+            }
+        }
+    }
+    assert!(kept >= 100, "{kept} delays");
+}
+
 /// The jobs that refusal 5 of a call is about. A table with a count above 8 has none, as its
 /// entries past the list hold any bytes.
 fn judged_jobs(input: &Input) -> Vec<Job> {
@@ -139,6 +242,7 @@ fn judged_jobs(input: &Input) -> Vec<Job> {
         WRITE_JOBS if input.number > 8 => Vec::new(),
         EDIT => vec![Job {
             id: 0,
+            delay: 0,
             cost: input.cost,
             period: input.period,
             deadline: input.deadline,
@@ -306,16 +410,18 @@ fn plans_and_keys_are_the_same_by_the_first_bound_alone() {
     assert!(compared >= 1_000, "{compared} answers compared");
 }
 
-/// The least time to a deadline that equals the demand when sums are kept in two bytes.
-fn least_time_in_two_bytes(layer_demand: u64, above: &[Job], deadline: u16) -> u16 {
+/// The response of a job, its deadline being up to its period, when sums are kept in two bytes; 0
+/// if it is above the deadline.
+fn response_in_two_bytes(layer_demand: u64, above: &[Job], job: &Job) -> u16 {
     let demand = |time: u16| {
         above.iter().fold(layer_demand as u16, |sum, job| {
             sum.wrapping_add(interference(job, u64::from(time)) as u16)
         })
     };
-    (1..=deadline)
+    let delay = u16::from(job.delay);
+    (1..=job.deadline.saturating_sub(delay))
         .find(|time| demand(*time) == *time)
-        .unwrap_or(0)
+        .map_or(0, |time| time + delay)
 }
 
 /// The bound of a placed job, whose deadline is up to its period, when sums are kept in two bytes.
@@ -324,15 +430,12 @@ fn bound_in_two_bytes(jobs: &[Job], settings: &[Setting], index: usize) -> u16 {
     let own_work = u64::from(job.cost);
     let mut above = jobs_above(jobs, settings, index);
     let layer_demand = layer_demand(settings, index, own_work);
-    let first = least_time_in_two_bytes(layer_demand, &above, job.deadline);
+    let first = response_in_two_bytes(layer_demand, &above, job);
     if settings[index].policy != ROUND_ROBIN {
         return first;
     }
     above.extend(neighbours(jobs, settings, index));
-    lesser_bound(
-        first,
-        least_time_in_two_bytes(own_work, &above, job.deadline),
-    )
+    lesser_bound(first, response_in_two_bytes(own_work, &above, job))
 }
 
 /// In how many of the stored cases that give bounds for a configuration some job that is chosen has
@@ -401,6 +504,16 @@ fn some_bounds_differ_by_other_readings_of_the_two_bounds() {
         let is_chosen = |_: &Job, setting: &Setting| setting.policy == ROUND_ROBIN;
         let differing = cases_that_tell(is_chosen, reading);
         assert!(differing >= 30, "{name}: {differing} cases");
+    }
+}
+
+#[test]
+fn some_bounds_differ_by_other_readings_of_the_delays() {
+    let is_chosen = |_: &Job, setting: &Setting| setting.policy != NOT_PLACED;
+    assert_eq!(cases_that_tell(is_chosen, bound_with_delays), 0);
+    for (name, least, reading) in READINGS_OF_DELAYS {
+        let differing = cases_that_tell(is_chosen, reading);
+        assert!(differing >= least, "{name}: {differing} cases");
     }
 }
 

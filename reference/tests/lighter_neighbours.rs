@@ -5,11 +5,9 @@ mod common;
 
 use common::{
     all_bounds, any_list, bound_instance_by_instance, bound_of_instances, jobs, marked,
-    near_full_list, shared_level, SettingNumbers, Times,
+    near_full_list, shared_level, two_bounds_by, SettingNumbers, Times,
 };
-use reference::configuration::{
-    setting_of_record, QuantumRange, Setting, FIFO, NOT_PLACED, ROUND_ROBIN,
-};
+use reference::configuration::{setting_of_record, QuantumRange, Setting, NOT_PLACED, ROUND_ROBIN};
 use reference::generation::random::Random;
 use reference::generation::situations::{Situation, SITUATIONS};
 use reference::jobs::Job;
@@ -149,35 +147,6 @@ fn the_lesser_is_taken_of_two_whole_bounds() {
     assert_eq!((first[1], second[1], bounds[1]), (0, 17, 17));
 }
 
-/// The settings with a job alone on its level and its neighbours not placed, which makes them count
-/// as above it.
-fn with_neighbours_above(settings: &[Setting], index: usize) -> Vec<Setting> {
-    let mut changed = settings.to_vec();
-    for (other, setting) in changed.iter_mut().enumerate() {
-        if other == index {
-            (setting.policy, setting.quantum) = (FIFO, 0);
-        } else if setting.level == settings[index].level {
-            (setting.level, setting.policy, setting.quantum) = (0, NOT_PLACED, 0);
-        }
-    }
-    changed
-}
-
-/// The two bounds of a job by the texts. A policy 1 job has no second one, and a job not placed has
-/// neither.
-fn bounds_by_texts(jobs: &[Job], settings: &[Setting], index: usize) -> [u16; 2] {
-    let policy = settings[index].policy;
-    if policy == NOT_PLACED {
-        return [0, 0];
-    }
-    let first = bound_of_instances(jobs, settings, index);
-    if policy == FIFO {
-        return [first, 0];
-    }
-    let above = with_neighbours_above(settings, index);
-    [first, bound_of_instances(jobs, &above, index)]
-}
-
 #[test]
 fn bounds_agree_with_a_search_of_every_time_for_every_instance() {
     let mut situations = [0; SITUATIONS.len()];
@@ -190,7 +159,7 @@ fn bounds_agree_with_a_search_of_every_time_for_every_instance() {
         });
         for (index, setting) in settings.iter().enumerate() {
             let found = bound(&jobs, &settings, index);
-            let [first, second] = bounds_by_texts(&jobs, &settings, index);
+            let [first, second] = two_bounds_by(bound_of_instances, &jobs, &settings, index);
             let situation = Situation::of_bounds([first, second]);
             let expected = match situation {
                 Situation::FirstLess | Situation::FirstAlone | Situation::Equal => first,

@@ -6,10 +6,12 @@ mod common;
 use common::near_full_list;
 use reference::configuration::{judge_range, not_placed, QuantumRange, Setting};
 use reference::frames::PLAN;
+use reference::generation::delays::has_delay;
 use reference::generation::long_deadlines::has_long_deadline;
 use reference::generation::random::Random;
 use reference::generation::{
-    entry_of_case, input_of_case, FIRST_LIGHT_NEIGHBOUR_CASE, FIRST_LONG_DEADLINE_CASE,
+    entry_of_case, input_of_case, FIRST_DELAY_CASE, FIRST_LIGHT_NEIGHBOUR_CASE,
+    FIRST_LONG_DEADLINE_CASE,
 };
 use reference::jobs::{jobs_of_block, Job};
 use reference::planner::{members_of_set, place, plan_jobs, subsets_in_order, whole_set, Plan};
@@ -104,35 +106,41 @@ fn affordable_case(case: usize) -> Option<(Vec<Job>, QuantumRange)> {
 }
 
 /// Compares the planner with the literal search for the cases in a range of numbers, and answers
-/// how many lists were compared and how many of them have a deadline above its period.
-fn compare(cases: Range<usize>) -> (usize, usize) {
-    let (mut compared, mut with_long_deadline) = (0, 0);
+/// how many of the lists compared are of a kind.
+fn compare(cases: Range<usize>, is_of_kind: fn(&[Job]) -> bool) -> usize {
+    let mut of_kind = 0;
     for case in cases {
         if let Some((jobs, range)) = affordable_case(case) {
             assert_eq!(plan_jobs(&jobs, range), literal_plan(&jobs, range));
-            compared += 1;
-            with_long_deadline += usize::from(has_long_deadline(&jobs));
+            of_kind += usize::from(is_of_kind(&jobs));
         }
     }
-    (compared, with_long_deadline)
+    of_kind
 }
 
 #[test]
 fn the_planner_agrees_with_the_literal_search() {
-    let (compared, _) = compare(0..FIRST_LONG_DEADLINE_CASE);
+    let compared = compare(0..FIRST_LONG_DEADLINE_CASE, |_| true);
     assert!(compared >= 300, "{compared} lists compared");
 }
 
 #[test]
 fn the_planner_agrees_with_the_literal_search_on_long_deadlines() {
-    let (_, with_long_deadline) = compare(FIRST_LONG_DEADLINE_CASE..FIRST_LIGHT_NEIGHBOUR_CASE);
+    let cases = FIRST_LONG_DEADLINE_CASE..FIRST_LIGHT_NEIGHBOUR_CASE;
+    let with_long_deadline = compare(cases, has_long_deadline);
     assert!(with_long_deadline >= 100, "{with_long_deadline} lists");
 }
 
 #[test]
 fn the_planner_agrees_with_the_literal_search_on_light_neighbours() {
-    let (compared, _) = compare(FIRST_LIGHT_NEIGHBOUR_CASE..FIRST_LIGHT_NEIGHBOUR_CASE + 900);
+    let compared = compare(FIRST_LIGHT_NEIGHBOUR_CASE..FIRST_DELAY_CASE, |_| true);
     assert!(compared >= 30, "{compared} lists compared");
+}
+
+#[test]
+fn the_planner_agrees_with_the_literal_search_on_delays() {
+    let with_delay = compare(FIRST_DELAY_CASE..FIRST_DELAY_CASE + 900, has_delay);
+    assert!(with_delay >= 60, "{with_delay} lists");
 }
 
 /// The quanta that a layer's search finds for the first two jobs of a list or more, with the rest

@@ -81,7 +81,12 @@ fn refusals_of_the_job_block() {
     assert_eq!(changed(|call| call.block.clear()), [1; 5]);
     assert_eq!(changed(|call| call.block.push(0)), [1; 5]);
     assert_eq!(changed(|call| call.block[8] = 0), [2; 5]);
-    assert_eq!(changed(|call| call.block[9] = 1), [2; 5]);
+    assert_eq!(changed(|call| call.block[9] = 1), [0; 5]);
+    assert_eq!(changed(|call| call.block[9] = 255), [0; 5]);
+    assert_eq!(
+        changed(|call| (call.block[8], call.block[9]) = (0, 1)),
+        [2; 5]
+    );
     assert_eq!(changed(|call| call.block[8] = 1), [3; 5]);
     assert_eq!(changed(|call| call.block[3] = 0), [5; 5]);
     assert_eq!(changed(|call| call.block[3] = 9), [5; 5]);
@@ -164,6 +169,11 @@ fn refusals_of_writing_jobs() {
     let mut unordered = table;
     unordered[1].id = 1;
     assert_eq!(write(&unordered, 2, 0), 3);
+    let mut delayed = table;
+    delayed[0].delay = 255;
+    assert_eq!(write(&delayed, 2, 16), 0);
+    delayed[0].id = 0;
+    assert_eq!(write(&delayed, 2, 16), 2);
     assert_eq!(write(&job_table(&[(6, 8, 8), (0, 22, 22)]), 2, 0), 5);
 }
 
@@ -236,8 +246,12 @@ fn each_number_is_sought_through_all_records_before_the_next() {
         changed(move |call| call.block = [first, second].concat())
     };
     assert_eq!(
-        both([1, 0, 0, 0, 0, 8, 0, 8], [2, 1, 0, 5, 0, 9, 0, 9]),
+        both([1, 0, 0, 0, 0, 8, 0, 8], [0, 1, 0, 5, 0, 9, 0, 9]),
         [2; 5]
+    );
+    assert_eq!(
+        both([1, 0, 0, 0, 0, 8, 0, 8], [2, 1, 0, 5, 0, 9, 0, 9]),
+        [5; 5]
     );
     assert_eq!(
         both([1, 0, 0, 0, 0, 8, 0, 8], [1, 0, 0, 5, 0, 9, 0, 9]),

@@ -18,6 +18,8 @@ pub struct Call {
     /// The number of jobs before any fault is put in.
     pub jobs: usize,
     pub job_records: Vec<[u8; JOB_BYTES]>,
+    /// Whether a job has a delay before any fault is put in.
+    pub has_delay: bool,
     /// The length of the job block lent, in bytes.
     pub job_length: usize,
     pub setting_records: Vec<[u8; SETTING_BYTES]>,
@@ -123,6 +125,7 @@ impl Call {
             high,
             jobs: jobs.len(),
             job_records: jobs.iter().map(record_of_job).collect(),
+            has_delay: jobs.iter().any(|job| job.delay != 0),
             job_length: JOB_BYTES * jobs.len(),
             setting_records: settings.iter().map(record_of_setting).collect(),
             setting_length: SETTING_BYTES * settings.len(),
@@ -148,7 +151,7 @@ impl Call {
         (input.low, input.high) = (self.low, self.high);
         (input.length_a, input.length_b) = (self.job_length as u8, self.setting_length as u8);
         if self.has_job_table() {
-            fill_job_table(random, &mut input.a);
+            fill_job_table(random, &mut input.a, self.has_delay);
             input.length_a = (JOB_BYTES * MOST_JOBS) as u8;
             input.number = self.count as u8;
         }
@@ -172,11 +175,13 @@ impl Call {
     }
 }
 
-/// Fills a table of jobs with bytes that are not 0, except the second bytes, which a table lacks.
-fn fill_job_table(random: &mut Random, region: &mut [u8]) {
+/// Fills a table of jobs with bytes that are not 0, except the delays if the list has none.
+fn fill_job_table(random: &mut Random, region: &mut [u8], has_delay: bool) {
     let table = &mut region[..JOB_BYTES * MOST_JOBS];
     random.fill(table);
-    for record in table.chunks_exact_mut(JOB_BYTES) {
-        record[1] = 0;
+    if !has_delay {
+        for record in table.chunks_exact_mut(JOB_BYTES) {
+            record[1] = 0;
+        }
     }
 }

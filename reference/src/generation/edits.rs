@@ -2,7 +2,8 @@
 
 use crate::frames::{Input, EDIT};
 use crate::generation::call::{blank_input, put};
-use crate::generation::job_faults::BadTimes;
+use crate::generation::job_faults::{with_bad_times, with_one_bad_time, BadTimes};
+use crate::generation::layers::DelayRule;
 use crate::generation::lists::job_of_times;
 use crate::generation::long_deadlines::deadline_beyond;
 use crate::generation::random::Random;
@@ -16,6 +17,46 @@ enum Kind {
     BadPlace,
     BadTimes,
 }
+
+/// How the calls of a group of cases are drawn.
+pub struct EditRule {
+    /// The kinds in turn.
+    kinds: &'static [Kind],
+    good_times: fn(&mut Random) -> Job,
+    bad_times: BadTimes,
+    /// The delays of the jobs in the slice lent.
+    delay: DelayRule,
+}
+
+/// Calls with deadlines up to periods and without delays.
+pub const EDITS: EditRule = EditRule {
+    kinds: &KINDS,
+    good_times,
+    bad_times: with_bad_times,
+    delay: |_| 0,
+};
+
+/// Calls with deadlines above periods and without delays.
+pub const LONG_DEADLINE_EDITS: EditRule = EditRule {
+    kinds: &KINDS,
+    good_times: good_times_with_long_deadline,
+    bad_times: with_one_bad_time,
+    delay: |_| 0,
+};
+
+/// Calls with delays, which the edit keeps. A delay may be above all times of its job.
+pub const DELAY_EDITS: EditRule = EditRule {
+    kinds: &MOSTLY_ACCEPTED,
+    good_times: |random| match random.below(2) {
+        0 => good_times(random),
+        _ => good_times_with_long_deadline(random),
+    },
+    bad_times: with_one_bad_time,
+    delay: |random| match random.below(6) {
+        0 => random.choose(&[1, u8::MAX]),
+        _ => random.byte(1, u8::MAX),
+    },
+};
 
 /// The kinds in turn. Only the edit has refusal 4, so its calls are the most.
 const KINDS: [Kind; 10] = [
@@ -31,6 +72,20 @@ const KINDS: [Kind; 10] = [
     Kind::BadPlace,
 ];
 
+/// The kinds in turn where most calls are accepted.
+const MOSTLY_ACCEPTED: [Kind; 10] = [
+    Kind::Accepted,
+    Kind::Accepted,
+    Kind::BadPlace,
+    Kind::Accepted,
+    Kind::Accepted,
+    Kind::BadTimes,
+    Kind::Accepted,
+    Kind::Accepted,
+    Kind::BadCount,
+    Kind::Accepted,
+];
+
 /// A time up to the most, which is itself the time every other time.
 fn up_to(random: &mut Random, most: u16) -> u16 {
     if random.once_in(2) {
@@ -41,7 +96,7 @@ fn up_to(random: &mut Random, most: u16) -> u16 {
 }
 
 /// Accepted times, among them the least, the longest and C equal to D; no D is above its T.
-pub fn good_times(random: &mut Random) -> Job {
+fn good_times(random: &mut Random) -> Job {
     let most = random.choose(&[1, 10, 1_000, LONGEST_PERIOD]);
     let period = up_to(random, most);
     let deadline = up_to(random, period);
@@ -50,7 +105,7 @@ pub fn good_times(random: &mut Random) -> Job {
 }
 
 /// Accepted times with a D above T unless T is the longest, among them T equal to C.
-pub fn good_times_with_long_deadline(random: &mut Random) -> Job {
+fn good_times_with_long_deadline(random: &mut Random) -> Job {
     let most = random.choose(&[1, 10, 1_000, LONGEST_PERIOD]);
     let period = up_to(random, most);
     let cost = up_to(random, period);
@@ -58,7 +113,7 @@ pub fn good_times_with_long_deadline(random: &mut Random) -> Job {
 }
 
 /// A slice of jobs with any numbers at all, as the entries that are not edited are not judged.
-fn any_jobs(random: &mut Random, count: usize) -> Vec<Job> {
+fn any_jobs(random: &mut Random, count: usize, delay: DelayRule) -> Vec<Job> {
     let mut jobs = Vec::new();
     for _ in 0..count {
         let mut job = job_of_times(
@@ -67,6 +122,7 @@ fn any_jobs(random: &mut Random, count: usize) -> Vec<Job> {
             random.ticks(0, u16::MAX),
         );
         job.id = random.byte(0, 255);
+        job.delay = delay(random);
         jobs.push(job);
     }
     jobs
@@ -99,23 +155,19 @@ fn lent_and_place(random: &mut Random, kind: Kind, round: usize) -> (usize, usiz
     }
 }
 
-/// The edit's call that is the `ordinal`-th, counted from 0, with times of the given kinds.
-pub fn edit_call(
-    random: &mut Random,
-    ordinal: usize,
-    good_times: fn(&mut Random) -> Job,
-    bad_times: BadTimes,
-) -> Input {
-    let kind = KINDS[ordinal % KINDS.len()];
+/// The edit's call that is the `ordinal`-th, counted from 0, by a rule.
+pub fn edit_call(random: &mut Random, ordinal: usize, rule: &EditRule) -> Input {
+    let kinds = rule.kinds;
+    let kind = kinds[ordinal % kinds.len()];
     // Calls of one kind see the rounds 0, 1, 2 and so on, so that counts and places come in turn.
-    let before = |end: usize| KINDS[..end].iter().filter(|other| **other == kind).count();
-    let round = ordinal / KINDS.len() * before(KINDS.len()) + before(ordinal % KINDS.len());
+    let before = |end: usize| kinds[..end].iter().filter(|other| **other == kind).count();
+    let round = ordinal / kinds.len() * before(kinds.len()) + before(ordinal % kinds.len());
     let (count, place) = lent_and_place(random, kind, round);
-    let jobs = any_jobs(random, count);
-    let mut times = good_times(random);
+    let jobs = any_jobs(random, count, rule.delay);
+    let mut times = (rule.good_times)(random);
     let may_be_bad = matches!(kind, Kind::BadCount | Kind::BadPlace);
     if kind == Kind::BadTimes || may_be_bad && random.once_in(2) {
-        times = bad_times(random, &times);
+        times = (rule.bad_times)(random, &times);
     }
     let mut input = blank_input(EDIT);
     let records: Vec<u8> = jobs.iter().flat_map(record_of_job).collect();

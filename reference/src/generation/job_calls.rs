@@ -170,7 +170,13 @@ pub fn call_with_faults(
         setting[0] = job[0];
     }
     put_setting_faults(random, &mut call, faults);
-    call.into_input(random)
+    let mut input = call.into_input(random);
+    // The one fault meant may be a deadline one above its period, or a delay, which is accepted.
+    // The list is then planned, in a range that the search affords.
+    if entry == PLAN && !faults.is_empty() && faults_present(&input).is_empty() {
+        input.high = affordable(&input.job_slice(), range).0.highest;
+    }
+    input
 }
 
 /// The call of an entry that is the `ordinal`-th of its entry, counted from 0.
@@ -178,15 +184,5 @@ pub fn job_call(random: &mut Random, entry: u8, ordinal: usize) -> Input {
     let accepted = accepted_of_ten(entry);
     let faults = chosen_faults(random, ordinal, accepted, refusals_in_turn(entry));
     let parts = accepted_parts(random, entry, ordinal, &faults);
-    let mut input = call_with_faults(random, entry, parts, &faults, with_bad_times);
-    // The one fault meant may be a deadline one above its period, which is accepted. The list is
-    // then planned, in a range that the search affords.
-    if entry == PLAN && !faults.is_empty() && faults_present(&input).is_empty() {
-        let range = QuantumRange {
-            lowest: input.low,
-            highest: input.high,
-        };
-        input.high = affordable(&input.job_slice(), range).0.highest;
-    }
-    input
+    call_with_faults(random, entry, parts, &faults, with_bad_times)
 }

@@ -46,9 +46,10 @@ pub fn put_job_faults(random: &mut Random, call: &mut Call, faults: &[u8], bad_t
     }
 }
 
-/// Refusal 2: id 0 or, in a block, a second byte that is not 0.
+/// Refusal 2: id 0. Every other time a block without delays is given a delay instead, which is
+/// accepted.
 fn put_identity_fault(random: &mut Random, call: &mut Call, record: usize) {
-    if call.has_job_table() || random.once_in(2) {
+    if call.has_job_table() || call.has_delay || random.once_in(2) {
         call.job_records[record][0] = 0;
     } else {
         call.job_records[record][1] = random.byte(1, 255);
@@ -73,9 +74,7 @@ fn put_order_fault(random: &mut Random, call: &mut Call, record: usize) {
 /// Refusal 5: one job with times out of order or out of range.
 fn put_times_fault(random: &mut Random, call: &mut Call, record: usize, bad_times: BadTimes) {
     let bytes = &mut call.job_records[record];
-    let second = bytes[1];
     *bytes = record_of_job(&bad_times(random, &job_of_record(bytes)));
-    bytes[1] = second;
 }
 
 /// The job with times that refusal 5 names or, once in seven times, with a deadline one above its
@@ -141,7 +140,7 @@ fn put_count_fault(random: &mut Random, call: &mut Call, may_be_empty: bool) {
     }
 }
 
-/// Appends jobs like the last one, with rising ids, until there are so many.
+/// Appends jobs like the last one but without a delay, with rising ids, until there are so many.
 fn lengthen(call: &mut Call, count: usize) {
     while call.job_records.len() < count {
         let mut record = *call.job_records.last().expect("a list is not empty");

@@ -17,9 +17,33 @@ pub struct Configured {
     pub settings: Vec<Setting>,
 }
 
-/// A rule that adds a layer of so many jobs below all others, with costs up to about ten times a
-/// scale; false if a job would have no first bound.
-pub type LayerRule = fn(&mut Random, &mut Configured, usize, QuantumRange, u16) -> bool;
+/// A rule that draws the delay of a job.
+pub type DelayRule = fn(&mut Random) -> u8;
+
+/// What the jobs of a layer are drawn from.
+#[derive(Clone, Copy)]
+pub struct Drawing {
+    /// The quanta of jobs that share a level.
+    pub range: QuantumRange,
+    /// Costs are up to about ten times the scale.
+    pub scale: u16,
+    pub delay: DelayRule,
+}
+
+impl Drawing {
+    /// A drawing of jobs without delays.
+    pub fn without_delays(range: QuantumRange, scale: u16) -> Drawing {
+        Drawing {
+            range,
+            scale,
+            delay: |_| 0,
+        }
+    }
+}
+
+/// A rule that adds a layer of so many jobs below all others; false if a job would have no first
+/// bound.
+pub type LayerRule = fn(&mut Random, &mut Configured, usize, Drawing) -> bool;
 
 /// The setting of a member of a layer of so many jobs.
 pub fn member_setting(random: &mut Random, level: u8, size: usize, range: QuantumRange) -> Setting {
@@ -42,15 +66,17 @@ pub fn add_members(
     random: &mut Random,
     list: &mut Configured,
     size: usize,
-    range: QuantumRange,
-    scale: u16,
+    drawing: Drawing,
 ) -> usize {
+    let Drawing { range, scale, .. } = drawing;
     let start = list.jobs.len();
     let level = list.settings.last().map_or(0, |setting| setting.level) + 1;
     for _ in 0..size {
         let cost = random.ticks(1, 9) * scale + random.ticks(0, scale - 1);
-        list.jobs
-            .push(job_of_times(cost, LONGEST_PERIOD, LONGEST_PERIOD));
+        list.jobs.push(Job {
+            delay: (drawing.delay)(random),
+            ..job_of_times(cost, LONGEST_PERIOD, LONGEST_PERIOD)
+        });
         list.settings
             .push(member_setting(random, level, size, range));
     }
@@ -63,10 +89,9 @@ pub fn add_layer(
     random: &mut Random,
     list: &mut Configured,
     size: usize,
-    range: QuantumRange,
-    scale: u16,
+    drawing: Drawing,
 ) -> bool {
-    for index in add_members(random, list, size, range, scale)..list.jobs.len() {
+    for index in add_members(random, list, size, drawing)..list.jobs.len() {
         let bound = first_bound(&list.jobs, &list.settings, index);
         if bound == 0 {
             return false;
@@ -92,11 +117,11 @@ fn add_layers(
     range: QuantumRange,
     add_layer: LayerRule,
 ) -> Option<Configured> {
-    let scale = random.choose(&SCALES);
+    let drawing = Drawing::without_delays(range, random.choose(&SCALES));
     while list.jobs.len() < count {
         let left = count - list.jobs.len();
         let size = random.choose(&[1, 1, 2, 2, 3, 4]).min(left);
-        if !add_layer(random, &mut list, size, range, scale) {
+        if !add_layer(random, &mut list, size, drawing) {
             return None;
         }
     }

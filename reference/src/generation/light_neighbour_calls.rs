@@ -14,7 +14,7 @@ use crate::jobs::MOST_JOBS;
 use crate::key::KEY_RANGE;
 
 /// A quantum range, mostly one from small quanta to large ones.
-fn uneven_range(random: &mut Random) -> QuantumRange {
+pub fn uneven_range(random: &mut Random) -> QuantumRange {
     if random.once_in(3) {
         return range(random);
     }

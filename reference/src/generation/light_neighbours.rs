@@ -2,7 +2,9 @@
 //! job shares its level, mostly with neighbours that have far less work than quanta.
 
 use crate::configuration::QuantumRange;
-use crate::generation::layers::{add_layer, add_members, built, reorder, skip_levels, Configured};
+use crate::generation::layers::{
+    add_layer, add_members, built, reorder, skip_levels, Configured, Drawing,
+};
 use crate::generation::lists::stretched;
 use crate::generation::long_deadlines::{
     first_run_by_recurrence, least_period, second_run_by_recurrence, set_period, RunOfJob,
@@ -46,14 +48,13 @@ const SERVED: [Situation; 5] = [
     Situation::FirstLess,
 ];
 
-/// What the layers of a list are drawn for.
+/// What the layers of a list are drawn for, and from what.
 #[derive(Clone, Copy)]
-struct Wanted {
+pub struct Wanted {
     /// How the bounds of a layer's first job stand to each other.
-    situation: Situation,
-    deadlines: Deadlines,
-    range: QuantumRange,
-    scale: u16,
+    pub situation: Situation,
+    pub deadlines: Deadlines,
+    pub drawing: Drawing,
 }
 
 /// The cost of a neighbour with this quantum beside a job that needs so many cycles: far less work
@@ -78,10 +79,10 @@ fn add_uneven_members(
     size: usize,
     wanted: Wanted,
 ) -> usize {
-    let range = wanted.range;
+    let range = wanted.drawing.range;
     let middle = range.lowest + (range.highest - range.lowest) / 2;
-    let cycles = random.ticks(1, 8) * wanted.scale;
-    let start = add_members(random, list, size, range, wanted.scale);
+    let cycles = random.ticks(1, 8) * wanted.drawing.scale;
+    let start = add_members(random, list, size, wanted.drawing);
     for index in start..list.jobs.len() {
         let (least, most) = if index == start {
             (range.lowest, middle)
@@ -227,7 +228,7 @@ fn add_upper_layers(
         situation: random.choose(&SERVED),
         ..wanted
     };
-    add_upper_jobs(random, list, count - sharing, wanted.range, wanted.scale)
+    add_upper_jobs(random, list, count - sharing, wanted.drawing)
         && (sharing == 0 || add_uneven_layer(random, list, sharing, shared))
 }
 
@@ -240,13 +241,32 @@ fn drawn(random: &mut Random, count: usize, wanted: Wanted) -> Option<Configured
     let mut list = Configured::default();
     let is_drawn = add_upper_layers(random, &mut list, left - lower, wanted)
         && add_uneven_layer(random, &mut list, size, wanted)
-        && (lower == 0 || add_layer(random, &mut list, lower, wanted.range, wanted.scale));
+        && (lower == 0 || add_layer(random, &mut list, lower, wanted.drawing));
     is_drawn.then_some(list)
 }
 
 /// A list of two jobs or more with a full configuration, in which one job that shares its level is
-/// in the situation that is in turn. Its deadline is up to its period in one turn and above it in
-/// the other. The length falls with the attempts. If no draw gives a list, it is a built one.
+/// in a wanted situation; none if no draw gives one. The length falls with the attempts.
+pub fn list_with_wanted_situation(
+    random: &mut Random,
+    wanted: Wanted,
+    count: usize,
+) -> Option<Configured> {
+    for attempt in 0..ATTEMPTS {
+        let count = count
+            .saturating_sub(attempt / ATTEMPTS_OF_ONE_LENGTH)
+            .max(2);
+        if let Some(mut list) = drawn(random, count, wanted) {
+            skip_levels(random, &mut list.settings);
+            return Some(reorder(random, list));
+        }
+    }
+    None
+}
+
+/// A list without delays in which one job that shares its level is in the situation that is in
+/// turn. Its deadline is up to its period in one turn and above it in the other. If no draw gives a
+/// list, it is a built one.
 pub fn list_with_situation(
     random: &mut Random,
     turn: usize,
@@ -256,17 +276,8 @@ pub fn list_with_situation(
     let wanted = Wanted {
         situation: WANTED[turn % WANTED.len()],
         deadlines: [Deadlines::UpToPeriods, Deadlines::AbovePeriods][turn / WANTED.len() % 2],
-        range,
-        scale: SCALES[turn % SCALES.len()],
+        drawing: Drawing::without_delays(range, SCALES[turn % SCALES.len()]),
     };
-    for attempt in 0..ATTEMPTS {
-        let count = count
-            .saturating_sub(attempt / ATTEMPTS_OF_ONE_LENGTH)
-            .max(2);
-        if let Some(mut list) = drawn(random, count, wanted) {
-            skip_levels(random, &mut list.settings);
-            return reorder(random, list);
-        }
-    }
-    built(random, count, range, add_layer)
+    list_with_wanted_situation(random, wanted, count)
+        .unwrap_or_else(|| built(random, count, range, add_layer))
 }

@@ -20,10 +20,11 @@ const WORKED_LISTS: [&[(u16, u16)]; 5] = [
 /// Factors that take a list of small times up to times of thousands of ticks.
 pub const SCALES: [u16; 6] = [1, 1, 1, 7, 100, 1000];
 
-/// A job without an id yet.
+/// A job without an id yet and without a delay.
 pub fn job_of_times(cost: u16, period: u16, deadline: u16) -> Job {
     Job {
         id: 0,
+        delay: 0,
         cost,
         period,
         deadline,

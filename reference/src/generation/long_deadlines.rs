@@ -1,8 +1,8 @@
 //! Lists with deadlines above periods, and the means to set a job's times by the run of its
 //! instances.
 
-use crate::configuration::{QuantumRange, Setting};
-use crate::generation::layers::{add_members, Configured};
+use crate::configuration::Setting;
+use crate::generation::layers::{add_members, Configured, Drawing};
 use crate::generation::lists::stretched;
 use crate::generation::random::Random;
 use crate::jobs::{Job, LONGEST_DEADLINE, LONGEST_PERIOD};
@@ -90,6 +90,7 @@ pub fn closes_after_last(list: &Configured, index: usize) -> bool {
     let own_work = (INSTANCES + 1) * u64::from(job.cost);
     let demand = layer_demand(&list.settings, index, own_work);
     let latest = (INSTANCES + 1) * u64::from(job.period);
+    let latest = latest.saturating_sub(u64::from(job.delay));
     finish_by_recurrence(demand, &above, 1, latest).is_some()
 }
 
@@ -136,10 +137,9 @@ pub fn add_layer_with_long_deadlines(
     random: &mut Random,
     list: &mut Configured,
     size: usize,
-    range: QuantumRange,
-    scale: u16,
+    drawing: Drawing,
 ) -> bool {
-    for index in add_members(random, list, size, range, scale)..list.jobs.len() {
+    for index in add_members(random, list, size, drawing)..list.jobs.len() {
         let instance = random.choose(&[0, 0, 1, 2, 6]);
         let Some(least) = least_period(list, index, instance, first_run_by_recurrence) else {
             return false;

@@ -2,7 +2,11 @@
 
 mod byte_tests;
 mod call;
+mod delay_calls;
+pub mod delay_counts;
+pub mod delays;
 mod edits;
+pub mod effects;
 mod job_calls;
 mod job_faults;
 mod layers;
@@ -26,9 +30,9 @@ use crate::frames::{
     WRITE_CONFIGURATION, WRITE_JOBS,
 };
 use byte_tests::same_bytes_call;
-use edits::{edit_call, good_times, good_times_with_long_deadline};
+use delay_calls::delay_call;
+use edits::{edit_call, DELAY_EDITS, EDITS, LONG_DEADLINE_EDITS};
 use job_calls::job_call;
-use job_faults::{with_bad_times, with_one_bad_time};
 use light_neighbour_calls::light_neighbour_call;
 use long_deadline_calls::long_deadline_call;
 use random::Random;
@@ -39,6 +43,10 @@ pub const FIRST_LONG_DEADLINE_CASE: usize = 3_600;
 
 /// From this case on most lists have layers in which a job's two bounds differ.
 pub const FIRST_LIGHT_NEIGHBOUR_CASE: usize = 5_400;
+
+/// From this case on all lists have delays. In the cases below it none has, but for a few calls
+/// with one delay.
+pub const FIRST_DELAY_CASE: usize = 6_300;
 
 /// How many cases of each entry are in one round of the cases below those for long deadlines.
 const ROUND: [(u8, usize); 10] = [
@@ -70,6 +78,19 @@ const LONG_DEADLINE_ROUND: [(u8, usize); 9] = [
 /// How many cases of each entry are in one round of the cases for light neighbours.
 const LIGHT_NEIGHBOUR_ROUND: [(u8, usize); 4] = [(BOUNDS, 26), (MARK, 22), (PLAN, 10), (KEY, 2)];
 
+/// How many cases of each entry are in one round of the cases for delays.
+const DELAY_ROUND: [(u8, usize); 9] = [
+    (READ_JOBS, 3),
+    (WRITE_JOBS, 3),
+    (READ_CONFIGURATION, 2),
+    (WRITE_CONFIGURATION, 2),
+    (BOUNDS, 17),
+    (MARK, 14),
+    (PLAN, 12),
+    (EDIT, 4),
+    (KEY, 3),
+];
+
 /// The entry of a case in rounds, and how many cases of that entry come before it.
 fn entry_in_rounds(round: &[(u8, usize)], case: usize) -> (u8, usize) {
     let cases_of_round: usize = round.iter().map(|(_, cases)| cases).sum();
@@ -86,7 +107,9 @@ fn entry_in_rounds(round: &[(u8, usize)], case: usize) -> (u8, usize) {
 
 /// The entry of a case, and how many cases of that entry come before it among those of its kind.
 pub fn entry_of_case(case: usize) -> (u8, usize) {
-    if case >= FIRST_LIGHT_NEIGHBOUR_CASE {
+    if case >= FIRST_DELAY_CASE {
+        entry_in_rounds(&DELAY_ROUND, case - FIRST_DELAY_CASE)
+    } else if case >= FIRST_LIGHT_NEIGHBOUR_CASE {
         entry_in_rounds(&LIGHT_NEIGHBOUR_ROUND, case - FIRST_LIGHT_NEIGHBOUR_CASE)
     } else if case >= FIRST_LONG_DEADLINE_CASE {
         entry_in_rounds(&LONG_DEADLINE_ROUND, case - FIRST_LONG_DEADLINE_CASE)
@@ -99,23 +122,24 @@ pub fn entry_of_case(case: usize) -> (u8, usize) {
 pub fn input_of_case(seed: u64, case: usize) -> Input {
     let mut random = Random::of_case(seed, case as u64);
     let (entry, ordinal) = entry_of_case(case);
+    if case >= FIRST_DELAY_CASE {
+        return match entry {
+            EDIT => edit_call(&mut random, ordinal, &DELAY_EDITS),
+            _ => delay_call(&mut random, entry, ordinal),
+        };
+    }
     if case >= FIRST_LIGHT_NEIGHBOUR_CASE {
         return light_neighbour_call(&mut random, entry, ordinal);
     }
     if case >= FIRST_LONG_DEADLINE_CASE {
         return match entry {
-            EDIT => edit_call(
-                &mut random,
-                ordinal,
-                good_times_with_long_deadline,
-                with_one_bad_time,
-            ),
+            EDIT => edit_call(&mut random, ordinal, &LONG_DEADLINE_EDITS),
             _ => long_deadline_call(&mut random, entry, ordinal),
         };
     }
     match entry {
         SAME_BYTES => same_bytes_call(&mut random, ordinal),
-        EDIT => edit_call(&mut random, ordinal, good_times, with_bad_times),
+        EDIT => edit_call(&mut random, ordinal, &EDITS),
         _ => job_call(&mut random, entry, ordinal),
     }
 }

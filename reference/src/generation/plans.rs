@@ -113,8 +113,8 @@ pub enum Deadlines {
 }
 
 impl Deadlines {
-    /// A list with such deadlines.
-    fn list(
+    /// A list with such deadlines and without delays.
+    pub fn list(
         self,
         random: &mut Random,
         count: usize,
@@ -125,6 +125,14 @@ impl Deadlines {
             Deadlines::UpToPeriods => list(random, count, range, wanted),
             Deadlines::AbovePeriods => list_with_long_deadlines(random, count, range, wanted),
         }
+    }
+
+    /// Whether a list has such deadlines. If its plan has a shared level, a job with a deadline
+    /// above its period is to be on one.
+    fn are_shown_by(self, jobs: &[Job], plan: &Plan) -> bool {
+        let shares =
+            largest_layer(&plan.settings) < 2 || shares_with_long_deadline(jobs, &plan.settings);
+        self == Deadlines::UpToPeriods || has_long_deadline(jobs) && shares
     }
 }
 
@@ -162,25 +170,18 @@ pub fn shares_with_long_deadline(jobs: &[Job], settings: &[Setting]) -> bool {
     pairs.any(|(job, setting)| setting.policy == ROUND_ROBIN && job.deadline > job.period)
 }
 
-/// Whether a plan has the outcome wanted. Of a list with deadlines above periods, such a job is on
-/// a level that is wanted to be shared.
-fn fits(jobs: &[Job], plan: &Plan, wanted: Option<Outcome>, deadlines: Deadlines) -> bool {
-    let has_outcome = wanted.is_none_or(|wanted| wanted == outcome(&plan.settings));
-    if deadlines == Deadlines::UpToPeriods {
-        return has_outcome;
-    }
-    let shares =
-        largest_layer(&plan.settings) < 2 || shares_with_long_deadline(jobs, &plan.settings);
-    has_outcome && has_long_deadline(jobs) && shares
+/// The plan of a list in a range, if the search tries no more lists of quanta than it may.
+pub fn affordable_plan(jobs: &[Job], range: QuantumRange) -> Option<Plan> {
+    plan_jobs_within(jobs, range, BoundRule::Lesser, MOST_LISTS).ok()
 }
 
 /// A range that is as wide as the one given, or as narrow as the list's search needs, with the
 /// plan in it.
 pub fn affordable(jobs: &[Job], mut range: QuantumRange) -> (QuantumRange, Plan) {
     loop {
-        match plan_jobs_within(jobs, range, BoundRule::Lesser, MOST_LISTS) {
-            Ok(plan) => return (range, plan),
-            Err(_) => range.highest = range.lowest + (range.highest - range.lowest) / 2,
+        match affordable_plan(jobs, range) {
+            Some(plan) => return (range, plan),
+            None => range.highest = range.lowest + (range.highest - range.lowest) / 2,
         }
     }
 }
@@ -196,13 +197,14 @@ fn least_jobs(wanted: Option<Outcome>) -> usize {
 }
 
 /// A list and a range for the planner. A given range is kept; the outcome wanted changes from case
-/// to case.
-pub fn planner_list(
+/// to case. Lists are drawn until one has that outcome and is shown to be of its kind.
+pub fn list_with_outcome(
     random: &mut Random,
     ordinal: usize,
     count: usize,
     fixed: Option<QuantumRange>,
-    deadlines: Deadlines,
+    draw: impl Fn(&mut Random, usize, QuantumRange, Option<Outcome>) -> Vec<Job>,
+    is_shown: impl Fn(&[Job], QuantumRange, &Plan) -> bool,
 ) -> (Vec<Job>, QuantumRange) {
     let wanted = WANTED[ordinal % WANTED.len()];
     let mut attempts = 0;
@@ -211,7 +213,7 @@ pub fn planner_list(
         let count = shorter.max(least_jobs(wanted));
         attempts += 1;
         let drawn = fixed.unwrap_or_else(|| range(random));
-        let jobs = deadlines.list(random, count, drawn, wanted);
+        let jobs = draw(random, count, drawn, wanted);
         // A list built for a wide range often stops short in a narrower one.
         let narrowed = QuantumRange {
             lowest: drawn.lowest,
@@ -223,10 +225,29 @@ pub fn planner_list(
             drawn
         };
         let (range, plan) = affordable(&jobs, tried);
-        if fits(&jobs, &plan, wanted, deadlines) || attempts == ATTEMPTS {
+        let has_outcome = wanted.is_none_or(|wanted| wanted == outcome(&plan.settings));
+        if has_outcome && is_shown(&jobs, range, &plan) || attempts == ATTEMPTS {
             return (jobs, fixed.unwrap_or(range));
         }
     }
+}
+
+/// A list without delays and a range for the planner, the list having deadlines of one kind.
+pub fn planner_list(
+    random: &mut Random,
+    ordinal: usize,
+    count: usize,
+    fixed: Option<QuantumRange>,
+    deadlines: Deadlines,
+) -> (Vec<Job>, QuantumRange) {
+    list_with_outcome(
+        random,
+        ordinal,
+        count,
+        fixed,
+        |random, count, range, wanted| deadlines.list(random, count, range, wanted),
+        |jobs, _, plan| deadlines.are_shown_by(jobs, plan),
+    )
 }
 
 /// A list with the planner's configuration of it, in the given range or a part of it.

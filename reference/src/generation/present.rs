@@ -8,9 +8,9 @@ use crate::frames::{
     Input, EDIT, KEY, MARK, PLAN, READ_JOBS, SAME_BYTES, WRITE_CONFIGURATION, WRITE_JOBS,
 };
 use crate::generation::call::{output_needs, takes_settings};
+use crate::generation::lists::job_of_times;
 use crate::jobs::{
-    judge_block_length, judge_identity, judge_order, judge_record_identity, judge_table_count,
-    judge_times, Job, JOB_BYTES, MOST_JOBS,
+    judge_block_length, judge_identity, judge_order, judge_table_count, judge_times, Job, MOST_JOBS,
 };
 use crate::marker::judge_full;
 use crate::refusal::{judge_output, Refusal};
@@ -55,15 +55,12 @@ fn judge_jobs(input: &Input, faults: &mut Faults) -> Vec<Job> {
     let jobs = if input.entry == WRITE_JOBS {
         let count = usize::from(input.number);
         faults.judge(judge_table_count(count));
-        let jobs = input.job_table()[..count.min(MOST_JOBS)].to_vec();
-        faults.judge_records(&jobs, judge_identity);
-        jobs
+        input.job_table()[..count.min(MOST_JOBS)].to_vec()
     } else {
         faults.judge(judge_block_length(input.block_a()));
-        let records: Vec<&[u8]> = input.block_a().chunks_exact(JOB_BYTES).collect();
-        faults.judge_records(&records, |some| judge_record_identity(&some.concat()));
         input.job_slice()
     };
+    faults.judge_records(&jobs, judge_identity);
     faults.judge_records(&jobs, judge_order);
     faults.judge_records(&jobs, judge_times);
     jobs
@@ -105,12 +102,8 @@ fn judge_edit(input: &Input, faults: &mut Faults) {
     if usize::from(input.number) >= count {
         faults.judge(Err(Refusal::EditPlace));
     }
-    faults.judge(judge_times(&[Job {
-        id: 1,
-        cost: input.cost,
-        period: input.period,
-        deadline: input.deadline,
-    }]));
+    let edited = job_of_times(input.cost, input.period, input.deadline);
+    faults.judge(judge_times(&[edited]));
 }
 
 /// All faults present in a call, by rising number.

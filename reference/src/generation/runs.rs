@@ -1,7 +1,7 @@
 //! Lists with a configuration in which the first run of one job's instances is of a wanted kind.
 
 use crate::configuration::QuantumRange;
-use crate::generation::layers::{add_members, built, reorder, skip_levels, Configured};
+use crate::generation::layers::{add_members, built, reorder, skip_levels, Configured, Drawing};
 use crate::generation::long_deadlines::{
     add_layer_with_long_deadlines, closes_after_last, deadline_beyond, first_run_by_recurrence,
     least_period, set_period,
@@ -21,7 +21,7 @@ const ATTEMPTS_OF_ONE_LENGTH: usize = 40;
 const SCALES: [u16; 9] = [1, 5_000, 20, 1_000, 4, 100, 5_000, 400, 2_000];
 
 /// The last instance of a run that does not end before.
-const LAST: u64 = INSTANCES - 1;
+pub const LAST: u64 = INSTANCES - 1;
 
 /// What the first run of a job's instances is to show.
 #[derive(Clone, Copy, Debug, PartialEq, Eq)]
@@ -133,16 +133,15 @@ pub fn add_upper_jobs(
     random: &mut Random,
     list: &mut Configured,
     count: usize,
-    range: QuantumRange,
-    scale: u16,
+    drawing: Drawing,
 ) -> bool {
     let most_percent = random.between(12, 95) / count.max(1);
     let longest = usize::from(LONGEST_PERIOD);
     for place in 0..count {
-        let index = add_members(random, list, 1, range, scale);
+        let index = add_members(random, list, 1, drawing);
         let mut period = longest;
         if place == 0 && random.once_in(2) {
-            let cost = usize::from(scale) * random.between(1, 300);
+            let cost = usize::from(drawing.scale) * random.between(1, 300);
             list.jobs[index].cost = cost.min(longest / 2) as u16;
         } else {
             let percent = random.between(most_percent.div_ceil(2), most_percent);
@@ -163,15 +162,14 @@ fn drawn(
     random: &mut Random,
     wanted: Wanted,
     count: usize,
-    range: QuantumRange,
-    scale: u16,
+    drawing: Drawing,
 ) -> Option<Configured> {
     let size = random.choose(&[1, 1, 1, 2, 3]).min(count);
     let mut list = Configured::default();
-    if !add_upper_jobs(random, &mut list, count - size, range, scale) {
+    if !add_upper_jobs(random, &mut list, count - size, drawing) {
         return None;
     }
-    let start = add_members(random, &mut list, size, range, scale);
+    let start = add_members(random, &mut list, size, drawing);
     for index in start..count {
         // The other jobs of the layer have any runs that close.
         let wanted = if index == start {
@@ -187,8 +185,28 @@ fn drawn(
 }
 
 /// A list of two jobs or more with a full configuration, in which the first run of one job's
-/// instances is of the kind that is in turn. Long lists are seldom drawn with some of the runs, so
-/// the length falls with the attempts. If no draw gives one, it is a list built for long deadlines.
+/// instances is of a wanted kind; none if no draw gives one. Long lists are seldom drawn with some
+/// of the runs, so the length falls with the attempts.
+pub fn list_with_wanted_run(
+    random: &mut Random,
+    wanted: Wanted,
+    count: usize,
+    drawing: Drawing,
+) -> Option<Configured> {
+    for attempt in 0..ATTEMPTS {
+        let count = count
+            .saturating_sub(attempt / ATTEMPTS_OF_ONE_LENGTH)
+            .max(2);
+        if let Some(mut list) = drawn(random, wanted, count, drawing) {
+            skip_levels(random, &mut list.settings);
+            return Some(reorder(random, list));
+        }
+    }
+    None
+}
+
+/// A list without delays in which the first run of one job's instances is of the kind that is in
+/// turn. If no draw gives one, it is a list built for long deadlines.
 pub fn list_with_run(
     random: &mut Random,
     turn: usize,
@@ -196,15 +214,7 @@ pub fn list_with_run(
     range: QuantumRange,
 ) -> Configured {
     let wanted = WANTED[turn % WANTED.len()];
-    let scale = SCALES[turn % SCALES.len()];
-    for attempt in 0..ATTEMPTS {
-        let count = count
-            .saturating_sub(attempt / ATTEMPTS_OF_ONE_LENGTH)
-            .max(2);
-        if let Some(mut list) = drawn(random, wanted, count, range, scale) {
-            skip_levels(random, &mut list.settings);
-            return reorder(random, list);
-        }
-    }
-    built(random, count, range, add_layer_with_long_deadlines)
+    let drawing = Drawing::without_delays(range, SCALES[turn % SCALES.len()]);
+    list_with_wanted_run(random, wanted, count, drawing)
+        .unwrap_or_else(|| built(random, count, range, add_layer_with_long_deadlines))
 }

@@ -4,11 +4,12 @@ use std::fmt;
 
 use crate::configuration::{setting_of_record, Setting, SETTING_BYTES};
 use crate::frames::{Frame, Input, KEY, PLAN};
+use crate::generation::delay_counts::DelayCounts;
 use crate::generation::plans::{largest_layer, outcome, Outcome};
 use crate::generation::present::{faults_present, Fault};
 use crate::generation::run_counts::LongDeadlineCounts;
 use crate::generation::situation_counts::SharedLevelCounts;
-use crate::generation::FIRST_LIGHT_NEIGHBOUR_CASE;
+use crate::generation::{FIRST_DELAY_CASE, FIRST_LIGHT_NEIGHBOUR_CASE};
 use crate::jobs::{LONGEST_PERIOD, MOST_JOBS};
 
 /// The entries' names by their numbers.
@@ -81,8 +82,11 @@ pub struct Summary {
     pub long_deadlines: LongDeadlineCounts,
     /// Of the cases below the first one for light neighbours.
     pub shared_levels: SharedLevelCounts,
-    /// Of the cases from that one on.
+    /// Of the cases from that one on, below the first one for delays.
     pub light_neighbours: SharedLevelCounts,
+    /// Of the cases for delays.
+    pub delayed_neighbours: SharedLevelCounts,
+    pub delays: DelayCounts,
 }
 
 impl Summary {
@@ -110,12 +114,44 @@ impl Summary {
             self.plans.count(input, output);
         }
         self.long_deadlines.count(input, output);
+        self.delays.count(input, output);
         let shared_levels = if case < FIRST_LIGHT_NEIGHBOUR_CASE {
             &mut self.shared_levels
-        } else {
+        } else if case < FIRST_DELAY_CASE {
             &mut self.light_neighbours
+        } else {
+            &mut self.delayed_neighbours
         };
         shared_levels.count(input, output);
+    }
+
+    /// Writes the counts of entries and those of refusals.
+    fn write_answers(&self, formatter: &mut fmt::Formatter<'_>) -> fmt::Result {
+        writeln!(
+            formatter,
+            "{:<24}{:>10}{:>10}{:>16}",
+            "entry", "accepted", "refused", "first value > 0"
+        )?;
+        for (name, entry) in ENTRY_NAMES.iter().zip(&self.entries).skip(1) {
+            writeln!(
+                formatter,
+                "{name:<24}{:>10}{:>10}{:>16}",
+                entry.accepted, entry.refused, entry.answered_yes
+            )?;
+        }
+        writeln!(
+            formatter,
+            "\n{:<24}{:>10}{:>16}{:>22}",
+            "refusal", "cases", "later fault too", "in an earlier record"
+        )?;
+        for (number, refusal) in self.refusals.iter().enumerate().skip(1) {
+            writeln!(
+                formatter,
+                "{number:<24}{:>10}{:>16}{:>22}",
+                refusal.all, refusal.with_later, refusal.with_later_before
+            )?;
+        }
+        Ok(())
     }
 }
 
@@ -177,49 +213,25 @@ fn line(formatter: &mut fmt::Formatter<'_>, name: &str, count: usize) -> fmt::Re
 
 impl fmt::Display for Summary {
     fn fmt(&self, formatter: &mut fmt::Formatter<'_>) -> fmt::Result {
-        writeln!(
-            formatter,
-            "{:<24}{:>10}{:>10}{:>16}",
-            "entry", "accepted", "refused", "first value > 0"
-        )?;
-        for (name, entry) in ENTRY_NAMES.iter().zip(&self.entries).skip(1) {
-            writeln!(
-                formatter,
-                "{name:<24}{:>10}{:>10}{:>16}",
-                entry.accepted, entry.refused, entry.answered_yes
-            )?;
-        }
-        writeln!(
-            formatter,
-            "\n{:<24}{:>10}{:>16}{:>22}",
-            "refusal", "cases", "later fault too", "in an earlier record"
-        )?;
-        for (number, refusal) in self.refusals.iter().enumerate().skip(1) {
-            writeln!(
-                formatter,
-                "{number:<24}{:>10}{:>16}{:>22}",
-                refusal.all, refusal.with_later, refusal.with_later_before
-            )?;
-        }
+        self.write_answers(formatter)?;
         writeln!(formatter)?;
         self.plans.fmt(formatter)?;
         writeln!(formatter)?;
         self.long_deadlines.fmt(formatter)?;
-        let first = FIRST_LIGHT_NEIGHBOUR_CASE;
-        for (counts, title) in [
-            (
-                &self.shared_levels,
-                format!("policy 2 jobs below case {first}"),
-            ),
+        let (light, delayed) = (FIRST_LIGHT_NEIGHBOUR_CASE, FIRST_DELAY_CASE);
+        for (counts, cases) in [
+            (&self.shared_levels, format!("below case {light}")),
             (
                 &self.light_neighbours,
-                format!("policy 2 jobs from case {first} on"),
+                format!("in cases {light} to {}", delayed - 1),
             ),
+            (&self.delayed_neighbours, format!("from case {delayed} on")),
         ] {
             writeln!(formatter)?;
-            counts.write(formatter, &title)?;
+            counts.write(formatter, &format!("policy 2 jobs {cases}"))?;
         }
-        Ok(())
+        writeln!(formatter)?;
+        self.delays.write(formatter, &ENTRY_NAMES)
     }
 }
 

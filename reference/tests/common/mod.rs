@@ -2,7 +2,9 @@
 //! numbers, random lists, and the bounds by searches written from the texts about them.
 #![allow(dead_code)]
 
-use reference::configuration::{Setting, NOT_PLACED, ROUND_ROBIN};
+pub mod readings;
+
+use reference::configuration::{Setting, FIFO, NOT_PLACED, ROUND_ROBIN};
 use reference::generation::long_deadlines::finish_by_recurrence;
 use reference::generation::random::Random;
 use reference::jobs::{record_of_job, Job};
@@ -25,12 +27,13 @@ pub struct Planned {
     pub bounds: Vec<u16>,
 }
 
-/// Jobs with ids 1, 2, 3 and so on.
-pub fn jobs(times: &[Times]) -> Vec<Job> {
+/// Jobs with ids 1, 2, 3 and so on, each with its J.
+pub fn delayed_jobs(times: &[(Times, u8)]) -> Vec<Job> {
     let mut jobs = Vec::new();
-    for (index, (cost, period, deadline)) in times.iter().enumerate() {
+    for (index, ((cost, period, deadline), delay)) in times.iter().enumerate() {
         jobs.push(Job {
             id: index as u8 + 1,
+            delay: *delay,
             cost: *cost,
             period: *period,
             deadline: *deadline,
@@ -39,9 +42,20 @@ pub fn jobs(times: &[Times]) -> Vec<Job> {
     jobs
 }
 
-/// The job block of jobs with ids 1, 2, 3 and so on.
+/// Jobs with ids 1, 2, 3 and so on, and without delays.
+pub fn jobs(times: &[Times]) -> Vec<Job> {
+    let without_delays: Vec<(Times, u8)> = times.iter().map(|times| (*times, 0)).collect();
+    delayed_jobs(&without_delays)
+}
+
+/// The job block of jobs.
+pub fn block_of_jobs(jobs: &[Job]) -> Vec<u8> {
+    jobs.iter().flat_map(record_of_job).collect()
+}
+
+/// The job block of jobs with ids 1, 2, 3 and so on, and without delays.
 pub fn job_block(times: &[Times]) -> Vec<u8> {
-    jobs(times).iter().flat_map(record_of_job).collect()
+    block_of_jobs(&jobs(times))
 }
 
 /// A configuration block.
@@ -57,11 +71,16 @@ pub fn bound_numbers(output: &[u8]) -> Vec<u16> {
         .collect()
 }
 
-/// The planner's answer for jobs that it accepts.
+/// The planner's answer for jobs without delays that it accepts.
 pub fn planned(times: &[Times], low: u8, high: u8) -> Planned {
-    let mut configuration = vec![0xaa; 4 * times.len()];
-    let mut bounds = vec![0xbb; 2 * times.len()];
-    let block = job_block(times);
+    planned_jobs(&jobs(times), low, high)
+}
+
+/// The planner's answer for jobs that it accepts.
+pub fn planned_jobs(jobs: &[Job], low: u8, high: u8) -> Planned {
+    let mut configuration = vec![0xaa; 4 * jobs.len()];
+    let mut bounds = vec![0xbb; 2 * jobs.len()];
+    let block = block_of_jobs(jobs);
     let answer = reference::plan(&block, low, high, &mut configuration, &mut bounds);
     let (placed, considered) = answer.expect("the list and the range are accepted");
     Planned {
@@ -75,10 +94,20 @@ pub fn planned(times: &[Times], low: u8, high: u8) -> Planned {
     }
 }
 
-/// The marker's answer and bounds for a configuration that it accepts.
+/// The marker's answer and bounds for jobs without delays and a configuration that it accepts.
 pub fn marked(times: &[Times], low: u8, high: u8, settings: &[SettingNumbers]) -> (bool, Vec<u16>) {
-    let mut output = vec![0xcc; 2 * times.len()];
-    let block = job_block(times);
+    marked_jobs(&jobs(times), low, high, settings)
+}
+
+/// The marker's answer and bounds for jobs and a configuration that it accepts.
+pub fn marked_jobs(
+    jobs: &[Job],
+    low: u8,
+    high: u8,
+    settings: &[SettingNumbers],
+) -> (bool, Vec<u16>) {
+    let mut output = vec![0xcc; 2 * jobs.len()];
+    let block = block_of_jobs(jobs);
     let answer = reference::mark(&block, low, high, &setting_block(settings), &mut output);
     let passes = answer.expect("the configuration is accepted");
     (passes, bound_numbers(&output))
@@ -99,13 +128,17 @@ pub fn shared_level(quanta: &[u8]) -> Vec<Setting> {
 }
 
 /// The first bounds, the second bounds and the bounds of jobs.
-pub fn all_bounds(times: &[Times], settings: &[Setting]) -> [Vec<u16>; 3] {
-    let jobs = jobs(times);
+pub fn bounds_of_jobs(jobs: &[Job], settings: &[Setting]) -> [Vec<u16>; 3] {
     [first_bound, second_bound, bound].map(|bound_of_job| {
         (0..jobs.len())
-            .map(|index| bound_of_job(&jobs, settings, index))
+            .map(|index| bound_of_job(jobs, settings, index))
             .collect()
     })
+}
+
+/// The first bounds, the second bounds and the bounds of jobs without delays.
+pub fn all_bounds(times: &[Times], settings: &[Setting]) -> [Vec<u16>; 3] {
+    bounds_of_jobs(&jobs(times), settings)
 }
 
 /// The first bounds of jobs that share a level, with these quanta.
@@ -121,7 +154,7 @@ pub fn demand(jobs: &[Job], settings: &[Setting], index: usize, own_work: u64, t
     for (other, (job, setting)) in jobs.iter().zip(settings).enumerate() {
         let (period, cost) = (u64::from(job.period), u64::from(job.cost));
         if setting.level < own.level {
-            demand += time.div_ceil(period) * cost;
+            demand += (time + u64::from(job.delay)).div_ceil(period) * cost;
         } else if setting.level == own.level && other != index {
             let quantum = u64::from(own.quantum);
             demand += own_work.div_ceil(quantum) * u64::from(setting.quantum);
@@ -136,6 +169,7 @@ pub fn demand(jobs: &[Job], settings: &[Setting], index: usize, own_work: u64, t
 pub fn bound_of_instances(jobs: &[Job], settings: &[Setting], index: usize) -> u16 {
     let job = &jobs[index];
     let (period, deadline) = (u64::from(job.period), u64::from(job.deadline));
+    let delay = u64::from(job.delay);
     let mut largest = 0;
     for instance in 0..64 {
         let own_work = (instance + 1) * u64::from(job.cost);
@@ -143,12 +177,12 @@ pub fn bound_of_instances(jobs: &[Job], settings: &[Setting], index: usize) -> u
         let Some(finish) = (1..4_000).find(equals) else {
             return 0;
         };
-        let response = finish - instance * period;
+        let response = finish + delay - instance * period;
         if response > deadline {
             return 0;
         }
         largest = largest.max(response);
-        if finish <= (instance + 1) * period {
+        if finish + delay <= (instance + 1) * period {
             return largest as u16;
         }
     }
@@ -195,7 +229,41 @@ pub fn any_settings(random: &mut Random, count: usize) -> Vec<Setting> {
     settings
 }
 
-/// A list with its settings; `deadline` chooses a job's deadline from its C and T.
+/// The settings with a job alone on its level and its neighbours not placed, which makes them count
+/// as above it.
+fn with_neighbours_above(settings: &[Setting], index: usize) -> Vec<Setting> {
+    let mut changed = settings.to_vec();
+    for (other, setting) in changed.iter_mut().enumerate() {
+        if other == index {
+            (setting.policy, setting.quantum) = (FIFO, 0);
+        } else if setting.level == settings[index].level {
+            (setting.level, setting.policy, setting.quantum) = (0, NOT_PLACED, 0);
+        }
+    }
+    changed
+}
+
+/// The two bounds of a job by a function for the first. A policy 1 job has no second one, and a job
+/// not placed has neither.
+pub fn two_bounds_by(
+    first_bound: fn(&[Job], &[Setting], usize) -> u16,
+    jobs: &[Job],
+    settings: &[Setting],
+    index: usize,
+) -> [u16; 2] {
+    let policy = settings[index].policy;
+    if policy == NOT_PLACED {
+        return [0, 0];
+    }
+    let first = first_bound(jobs, settings, index);
+    if policy == FIFO {
+        return [first, 0];
+    }
+    let above = with_neighbours_above(settings, index);
+    [first, first_bound(jobs, &above, index)]
+}
+
+/// A list without delays, with its settings; `deadline` chooses a job's deadline from its C and T.
 pub fn any_list(
     random: &mut Random,
     longest: u16,
@@ -213,7 +281,7 @@ pub fn any_list(
 }
 
 /// A list of two to four jobs whose costs over their periods sum to about 1, so that often no job
-/// fits below all others. Some deadlines are above periods.
+/// fits below all others. Some deadlines are above periods. It has no delays.
 pub fn near_full_list(random: &mut Random) -> Vec<Job> {
     let count = random.ticks(2, 4);
     let mut times = Vec::new();
