@@ -3,7 +3,7 @@
 use crate::calls::{Answer, Case};
 use crate::same::job::Job;
 use crate::same::planner::{Method, Search};
-use crate::same::response::{Iteration, Shortcuts};
+use crate::same::response::{Iteration, Load, Shortcuts};
 use std::cell::Cell;
 
 /// Counts about one for each division, as long as it is not paused.
@@ -32,17 +32,17 @@ impl Counted {
 impl Iteration for &Counted {
     const PLAIN_STEPS: u32 = Shortcuts::PLAIN_STEPS;
 
-    fn left(&self, free: impl FnOnce() -> u64) -> u64 {
-        Shortcuts.left(free)
+    fn load(&self, of_set: impl FnOnce() -> Load) -> Load {
+        Shortcuts.load(of_set)
     }
 
-    fn start(&self, own: u64, left: u64, before: u32) -> Option<u64> {
+    fn start(&self, own: u64, load: Load, before: u32) -> Option<u64> {
         self.add(2);
-        Shortcuts.start(own, left, before)
+        Shortcuts.start(own, load, before)
     }
 
-    fn runs_on(&self, job: &Job, quantum: u32, others: u32, left: u64) -> bool {
-        Shortcuts.runs_on(job, quantum, others, left)
+    fn runs_on(&self, job: &Job, quantum: u32, others: u32, load: Load) -> bool {
+        Shortcuts.runs_on(job, quantum, others, load)
     }
 
     fn evaluates(&self, set: u8) {

@@ -3,7 +3,7 @@
 
 use crate::lists::{give_ids, job};
 use crate::random::Random;
-use crate::same::job::{Job, LONGEST_DEADLINE, LONGEST_PERIOD};
+use crate::same::job::{Job, LONGEST_DEADLINE, LONGEST_DELAY, LONGEST_PERIOD};
 use crate::same::MOST_JOBS;
 
 /// A family: its name, and a list of it.
@@ -139,19 +139,30 @@ fn unit_costs_above(random: &mut Random) -> Vec<Job> {
     jobs
 }
 
-/// How long the deadlines of a changed list may be.
+/// What the jobs of a changed list may have: deadlines within the periods, deadlines past the
+/// periods, or these and delays.
 #[derive(Clone, Copy)]
-pub enum Deadlines {
+pub enum Changes {
     WithinPeriod,
     PastPeriod,
+    Delays,
 }
 
-impl Deadlines {
+impl Changes {
     /// The longest deadline of a job with a period.
-    fn longest(self, period: u16) -> u16 {
+    fn longest_deadline(self, period: u16) -> u16 {
         match self {
-            Deadlines::WithinPeriod => period,
-            Deadlines::PastPeriod => LONGEST_DEADLINE,
+            Changes::WithinPeriod => period,
+            Changes::PastPeriod | Changes::Delays => LONGEST_DEADLINE,
+        }
+    }
+
+    /// The last of the ways in which `mutated` changes a list. The way that changes a delay comes
+    /// after the others, so that searches without delays do not depend on it.
+    fn last_way(self) -> usize {
+        match self {
+            Changes::WithinPeriod | Changes::PastPeriod => 4,
+            Changes::Delays => 5,
         }
     }
 }
@@ -169,28 +180,37 @@ fn changed(random: &mut Random, number: u16, least: u16, most: u16) -> u16 {
     next.clamp(f64::from(least), f64::from(most)) as u16
 }
 
+/// A delay after a change of it, made on the number that is one more, since `changed` is for
+/// numbers from 1 on.
+fn changed_delay(random: &mut Random, delay: u8) -> u8 {
+    let most = u16::from(LONGEST_DELAY) + 1;
+    let next = changed(random, u16::from(delay) + 1, 1, most);
+    (next - 1) as u8
+}
+
 /// A list that differs in one or a few numbers.
-pub fn mutated(random: &mut Random, list: &[Job], deadlines: Deadlines) -> Vec<Job> {
+pub fn mutated(random: &mut Random, list: &[Job], changes: Changes) -> Vec<Job> {
     let mut jobs = list.to_vec();
     for _ in 0..random.between(1, 3) {
         let place = random.between(0, jobs.len() - 1);
         let mut job = jobs[place];
-        match random.between(0, 4) {
+        match random.between(0, changes.last_way()) {
             0 => job.cost = changed(random, job.cost, 1, job.deadline.min(job.period)),
             1 => {
-                let longest = deadlines.longest(job.period);
+                let longest = changes.longest_deadline(job.period);
                 job.deadline = changed(random, job.deadline, job.cost, longest);
             }
             2 => {
                 job.period = changed(random, job.period, job.cost, LONGEST_PERIOD);
-                job.deadline = job.deadline.min(deadlines.longest(job.period));
+                job.deadline = job.deadline.min(changes.longest_deadline(job.period));
             }
             3 => job = jobs[random.between(0, jobs.len() - 1)],
-            _ => {
+            4 => {
                 jobs[place] = jobs[0];
                 jobs[0] = job;
                 continue;
             }
+            _ => job.delay = changed_delay(random, job.delay),
         }
         jobs[place] = job;
     }

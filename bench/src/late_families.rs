@@ -30,7 +30,7 @@ fn latest(cost: f64, period: f64) -> Job {
 
 /// Fills a list up with jobs of similar periods and the longest deadline that together need about
 /// the part that is free.
-fn with_late_jobs(random: &mut Random, mut jobs: Vec<Job>) -> Vec<Job> {
+pub fn with_late_jobs(random: &mut Random, mut jobs: Vec<Job>) -> Vec<Job> {
     let count = MOST_JOBS - jobs.len();
     let share = free_part(&jobs) / count as f64;
     let period = random.scaled(500.0, f64::from(LONGEST_PERIOD));

@@ -1,7 +1,7 @@
 //! Random lists of jobs, ranges and configurations.
 
 use crate::random::Random;
-use crate::same::job::{Job, LONGEST_DEADLINE, LONGEST_PERIOD};
+use crate::same::job::{Job, LONGEST_DEADLINE, LONGEST_DELAY, LONGEST_PERIOD};
 use crate::same::setting::Setting;
 
 /// The ranges of quanta of mixed calls.
@@ -9,6 +9,10 @@ const RANGES: [(u8, u8); 4] = [(1, 4), (1, 5), (2, 16), (1, 64)];
 
 /// The most periods that the deadline of a late list has.
 const MOST_PERIODS: f64 = 6.0;
+
+/// The part of the deadline that the delay of a delayed list has at most: with more, many lists hold
+/// a job that is not served even alone.
+const DELAY_PART: u16 = 2;
 
 /// How the times of a random list are drawn.
 #[derive(Clone, Copy)]
@@ -23,6 +27,9 @@ pub enum Kind {
     /// Utilisations of any proportion, periods as in short or wide lists, deadlines from one period
     /// to several.
     Late,
+    /// Utilisations of any proportion, times as in short, wide or late lists, delays up to a part
+    /// of the deadline.
+    Delayed,
 }
 
 /// Kinds of lists, each with its name.
@@ -40,6 +47,9 @@ impl Kind {
     /// lists of the other lines do not depend on them.
     pub const PAST_PERIOD: &'static Kinds = &[("late lists", Kind::Late)];
 
+    /// The kinds with delays, with lines of their own for the same reason.
+    pub const WITH_DELAYS: &'static Kinds = &[("delayed lists", Kind::Delayed)];
+
     /// One of some kinds.
     pub fn any(random: &mut Random, kinds: &Kinds) -> Kind {
         random.choose(kinds).1
@@ -52,6 +62,7 @@ pub fn job(cost: f64, period: f64, deadline: impl FnOnce(u16, u16) -> u16) -> Jo
     let period = period.clamp(f64::from(cost), f64::from(LONGEST_PERIOD)) as u16;
     Job {
         id: 0,
+        delay: 0,
         cost,
         period,
         deadline: deadline(cost, period),
@@ -63,6 +74,14 @@ pub fn late(job: Job, periods: f64) -> Job {
     let deadline = f64::from(job.period) * periods;
     Job {
         deadline: deadline.min(f64::from(LONGEST_DEADLINE)) as u16,
+        ..job
+    }
+}
+
+/// The job with a delay, or with the longest one.
+pub fn delayed(job: Job, delay: u16) -> Job {
+    Job {
+        delay: delay.min(u16::from(LONGEST_DELAY)) as u8,
         ..job
     }
 }
@@ -79,12 +98,12 @@ pub fn list(random: &mut Random, kind: Kind, count: usize, load: f64) -> Vec<Job
     let weights: Vec<f64> = (0..count)
         .map(|_| match kind {
             Kind::Even => random.real(0.85, 1.15) / count as f64,
-            Kind::Short | Kind::Wide | Kind::Late => random.scaled(0.1, 1.0),
+            Kind::Short | Kind::Wide | Kind::Late | Kind::Delayed => random.scaled(0.1, 1.0),
         })
         .collect();
     let sum = match kind {
         Kind::Even => 1.0,
-        Kind::Short | Kind::Wide | Kind::Late => weights.iter().sum(),
+        Kind::Short | Kind::Wide | Kind::Late | Kind::Delayed => weights.iter().sum(),
     };
     let mut jobs: Vec<Job> = weights
         .iter()
@@ -118,6 +137,12 @@ fn random_job(random: &mut Random, kind: Kind, share: f64) -> Job {
             let kind = random.choose(&[Kind::Short, Kind::Wide]);
             let job = random_job(random, kind, share);
             late(job, random.scaled(1.0, MOST_PERIODS))
+        }
+        Kind::Delayed => {
+            let kind = random.choose(&[Kind::Short, Kind::Wide, Kind::Late]);
+            let job = random_job(random, kind, share);
+            let most = (job.deadline / DELAY_PART).min(u16::from(LONGEST_DELAY));
+            delayed(job, random.ticks(0, most))
         }
     }
 }

@@ -6,6 +6,7 @@
 
 mod calls;
 mod counted;
+mod delayed_families;
 mod families;
 mod late_families;
 mod library;

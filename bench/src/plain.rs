@@ -3,7 +3,7 @@
 
 use crate::same::job::Job;
 use crate::same::planner::{Method, Raising};
-use crate::same::response::{Iteration, WHOLE};
+use crate::same::response::{Iteration, Load};
 
 /// The iteration from the own demand.
 pub struct Plain;
@@ -11,15 +11,15 @@ pub struct Plain;
 impl Iteration for Plain {
     const PLAIN_STEPS: u32 = u32::MAX;
 
-    fn left(&self, _free: impl FnOnce() -> u64) -> u64 {
-        WHOLE
+    fn load(&self, _of_set: impl FnOnce() -> Load) -> Load {
+        Load::NONE
     }
 
-    fn start(&self, own: u64, _left: u64, _before: u32) -> Option<u64> {
+    fn start(&self, own: u64, _load: Load, _before: u32) -> Option<u64> {
         Some(own)
     }
 
-    fn runs_on(&self, _job: &Job, _quantum: u32, _others: u32, _left: u64) -> bool {
+    fn runs_on(&self, _job: &Job, _quantum: u32, _others: u32, _load: Load) -> bool {
         false
     }
 }

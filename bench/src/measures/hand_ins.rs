@@ -39,4 +39,11 @@ pub fn run(scale: &Scale) {
     run_kinds(scale, random, Kind::WITHIN_PERIOD, "d hand-ins");
     let random = &mut Random::of_measure(scale.seed, 8);
     run_kinds(scale, random, Kind::PAST_PERIOD, "d hand-ins, late lists");
+    let random = &mut Random::of_measure(scale.seed, 12);
+    run_kinds(
+        scale,
+        random,
+        Kind::WITH_DELAYS,
+        "d hand-ins, delayed lists",
+    );
 }

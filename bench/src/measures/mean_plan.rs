@@ -32,4 +32,6 @@ pub fn run(scale: &Scale) {
     run_kinds(scale, random, Kind::WITHIN_PERIOD, Some(GOAL));
     let random = &mut Random::of_measure(scale.seed, 9);
     run_kinds(scale, random, Kind::PAST_PERIOD, None);
+    let random = &mut Random::of_measure(scale.seed, 13);
+    run_kinds(scale, random, Kind::WITH_DELAYS, None);
 }

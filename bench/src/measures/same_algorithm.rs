@@ -48,4 +48,6 @@ pub fn run(scale: &Scale) {
     compare(scale, random, Kind::WITHIN_PERIOD, "");
     let random = &mut Random::of_measure(scale.seed, 7);
     compare(scale, random, Kind::PAST_PERIOD, ", late lists");
+    let random = &mut Random::of_measure(scale.seed, 11);
+    compare(scale, random, Kind::WITH_DELAYS, ", delayed lists");
 }

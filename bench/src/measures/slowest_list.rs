@@ -1,10 +1,11 @@
 //! Measure c: the slowest lists that searches over heavy families find, range 1 to 64, one with
-//! deadlines within the periods and one with deadlines past them, and the first families against
-//! plain iteration.
+//! deadlines within the periods, one with deadlines past them and one with delays too, and the
+//! first families against plain iteration.
 
 use crate::calls::Case;
 use crate::counted::{work, Counted};
-use crate::families::{mutated, Deadlines, Family, FAMILIES};
+use crate::delayed_families::DELAYED_FAMILIES;
+use crate::families::{mutated, Changes, Family, FAMILIES};
 use crate::late_families::LATE_FAMILIES;
 use crate::library;
 use crate::measures::{check_plans, time_plans, Scale};
@@ -30,17 +31,16 @@ const PLAIN_LISTS: usize = 24;
 /// The work of a call beside that of its bounds.
 const CALL_WORK: u64 = 1_000;
 
-/// The number of lists of each family from which a search starts.
-const STARTS: usize = 100;
-
 /// A search for the slowest list.
 struct Search {
     /// The name of its line.
     name: &'static str,
     /// The families from which it starts.
     families: &'static [Family],
-    /// How long the deadlines of the lists may become.
-    deadlines: Deadlines,
+    /// The number of lists of each family from which it starts.
+    starts: usize,
+    /// What changes may give the jobs of the lists.
+    changes: Changes,
     /// How many times the work of the scale it may spend: more where a list takes more work.
     times_work: u64,
     /// How much of that goes to the last climb, from the lists found, in parts of what goes to each
@@ -54,11 +54,12 @@ struct Search {
     source: u64,
 }
 
-const SEARCHES: [Search; 2] = [
+const SEARCHES: [Search; 3] = [
     Search {
         name: "c slowest list",
         families: &FAMILIES,
-        deadlines: Deadlines::WithinPeriod,
+        starts: 100,
+        changes: Changes::WithinPeriod,
         times_work: 1,
         last_shares: 0,
         most_pairs: usize::MAX,
@@ -68,12 +69,24 @@ const SEARCHES: [Search; 2] = [
     Search {
         name: "c slowest list, deadlines past the period",
         families: &LATE_FAMILIES,
-        deadlines: Deadlines::PastPeriod,
+        starts: 100,
+        changes: Changes::PastPeriod,
         times_work: 5,
         last_shares: 5,
         most_pairs: 7,
         goal: 0.5,
         source: 10,
+    },
+    Search {
+        name: "c slowest list with delays",
+        families: &DELAYED_FAMILIES,
+        starts: 30,
+        changes: Changes::Delays,
+        times_work: 5,
+        last_shares: 6,
+        most_pairs: 7,
+        goal: 1.0,
+        source: 14,
     },
 ];
 
@@ -102,7 +115,7 @@ impl Search {
         kept.truncate(KEPT);
         while spent < most_work {
             let place = random.between(0, kept.len() - 1);
-            let next = Weighed::new(mutated(random, &kept[place].jobs, self.deadlines));
+            let next = Weighed::new(mutated(random, &kept[place].jobs, self.changes));
             spent += next.work + CALL_WORK;
             if kept[place].work < next.work {
                 kept[place] = next;
@@ -116,7 +129,9 @@ impl Search {
     fn slowest(&self, random: &mut Random, most_work: u64) -> Weighed {
         let share = most_work / (self.families.len() as u64 + self.last_shares);
         let of_family = |(_, list): &Family| {
-            let starts = (0..STARTS).map(|_| Weighed::new(list(random))).collect();
+            let starts = (0..self.starts)
+                .map(|_| Weighed::new(list(random)))
+                .collect();
             self.climb(random, starts, share)
         };
         let found = self.families.iter().map(of_family).collect();
@@ -134,9 +149,17 @@ impl Search {
         };
         let times = time_plans(&cases, effort, library::plan, planner::plan);
         report::within(self.name, &times, "rust", Some(self.goal));
-        let triple = |job: &Job| format!("({},{},{})", job.cost, job.period, job.deadline);
-        let triples: Vec<String> = found.jobs.iter().map(triple).collect();
-        report::note(&format!("seed {}: {}", scale.seed, triples.join(" ")));
+        let texts: Vec<String> = found.jobs.iter().map(|job| self.text(job)).collect();
+        report::note(&format!("seed {}: {}", scale.seed, texts.join(" ")));
+    }
+
+    /// The numbers of a job, with the delay where the search has delays.
+    fn text(&self, job: &Job) -> String {
+        let times = format!("{},{},{}", job.cost, job.period, job.deadline);
+        match self.changes {
+            Changes::WithinPeriod | Changes::PastPeriod => format!("({times})"),
+            Changes::Delays => format!("({times},{})", job.delay),
+        }
     }
 }
 

@@ -8,6 +8,9 @@ pub const LONGEST_PERIOD: u16 = 60_000;
 /// The longest deadline, in ticks.
 pub const LONGEST_DEADLINE: u16 = 60_000;
 
+/// The longest delay, in ticks.
+pub const LONGEST_DELAY: u8 = 255;
+
 /// The longest quantum, in ticks.
 pub const LONGEST_QUANTUM: u8 = 64;
 
@@ -18,6 +21,8 @@ pub const JOB_SIZE: usize = 8;
 #[derive(Clone, Copy, Default, PartialEq, Eq, Debug)]
 pub struct Job {
     pub id: u8,
+    /// How late its releases may be noticed, in ticks.
+    pub delay: u8,
     pub cost: u16,
     pub period: u16,
     pub deadline: u16,
@@ -49,6 +54,7 @@ impl Job {
         let number = |at: usize| u16::from_be_bytes([record[at], record[at + 1]]);
         Job {
             id: record[0],
+            delay: record[1],
             cost: number(2),
             period: number(4),
             deadline: number(6),
@@ -59,6 +65,7 @@ impl Job {
     pub fn record(&self) -> [u8; JOB_SIZE] {
         let mut record = [0; JOB_SIZE];
         record[0] = self.id;
+        record[1] = self.delay;
         record[2..4].copy_from_slice(&self.cost.to_be_bytes());
         record[4..6].copy_from_slice(&self.period.to_be_bytes());
         record[6..8].copy_from_slice(&self.deadline.to_be_bytes());
@@ -92,9 +99,6 @@ impl Jobs {
             table: [Job::default(); MOST_JOBS],
             count: block.len() / JOB_SIZE,
         };
-        if block.chunks_exact(JOB_SIZE).any(|record| record[1] != 0) {
-            return Err(2);
-        }
         for (job, record) in jobs.table.iter_mut().zip(block.chunks_exact(JOB_SIZE)) {
             *job = Job::of_record(record);
         }

@@ -4,7 +4,7 @@ use crate::same::job::Job;
 use crate::same::{contains, MOST_JOBS};
 
 /// The whole processor, in the parts by which utilisation is counted.
-pub const WHOLE: u64 = 1 << 20;
+const WHOLE: u64 = 1 << 20;
 
 /// The most instances of a job that a bound goes through.
 const INSTANCES: u32 = 64;
@@ -15,52 +15,75 @@ const SHORT_PART: u64 = 256;
 /// The quanta of a layer, at the places of its jobs.
 pub type Quanta = [u8; MOST_JOBS];
 
+/// What a set of jobs above takes at least.
+#[derive(Clone, Copy)]
+pub struct Load {
+    /// What the set leaves of the processor.
+    left: u64,
+    /// What the delays of its jobs add to their work, in as many parts of a tick.
+    carried: u64,
+}
+
+impl Load {
+    /// The load of no jobs.
+    pub const NONE: Load = Load {
+        left: WHOLE,
+        carried: 0,
+    };
+
+    /// A time that no finish is below where so much demand is beside the set: each job of the set
+    /// takes at least its utilisation of the time and of its delay.
+    fn earliest(&self, demand: u64) -> u64 {
+        (demand * WHOLE + self.carried) / self.left
+    }
+}
+
 /// The fixed-point iteration that seeks the least time that equals its demand.
 pub trait Iteration {
     /// The plain steps before estimates are made.
     const PLAIN_STEPS: u32;
 
-    /// What the set above leaves of the processor, which one bound asks for once; the whole where
-    /// the iteration does not use it.
-    fn left(&self, free: impl FnOnce() -> u64) -> u64;
+    /// The load of the set above, which one bound asks for once; that of no jobs where the
+    /// iteration does not use it.
+    fn load(&self, of_set: impl FnOnce() -> Load) -> Load;
 
     /// The time from which the iteration of an instance starts, given the instance's own demand,
-    /// what the set above leaves and the finish of the instance before, 0 for the first one; none
+    /// the load of the set above and the finish of the instance before, 0 for the first one; none
     /// where no time equals its demand.
-    fn start(&self, own: u64, left: u64, before: u32) -> Option<u64>;
+    fn start(&self, own: u64, load: Load, before: u32) -> Option<u64>;
 
     /// Whether no instance finishes by its next release because the layer asks for more than is
     /// left.
-    fn runs_on(&self, job: &Job, quantum: u32, others: u32, left: u64) -> bool;
+    fn runs_on(&self, job: &Job, quantum: u32, others: u32, load: Load) -> bool;
 
     /// Is told of each evaluation of an interference, with the set.
     fn evaluates(&self, _set: u8) {}
 }
 
-/// The iteration with its shortcuts: none where the set above leaves nothing, a start from what it
-/// leaves or from the finish of the instance before, whichever is later, and estimates after some
-/// plain steps.
+/// The iteration with its shortcuts: none where the set above leaves nothing, a start from its load
+/// or from the finish of the instance before, whichever is later, and estimates after some plain
+/// steps.
 pub struct Shortcuts;
 
 impl Iteration for Shortcuts {
     const PLAIN_STEPS: u32 = 4;
 
-    fn left(&self, free: impl FnOnce() -> u64) -> u64 {
-        free()
+    fn load(&self, of_set: impl FnOnce() -> Load) -> Load {
+        of_set()
     }
 
-    fn start(&self, own: u64, left: u64, before: u32) -> Option<u64> {
-        if left == 0 {
+    fn start(&self, own: u64, load: Load, before: u32) -> Option<u64> {
+        if load.left == 0 {
             return None;
         }
-        Some((own * WHOLE / left).max(u64::from(before)))
+        Some(load.earliest(own).max(u64::from(before)))
     }
 
-    fn runs_on(&self, job: &Job, quantum: u32, others: u32, left: u64) -> bool {
+    fn runs_on(&self, job: &Job, quantum: u32, others: u32, load: Load) -> bool {
         if quantum == 0 {
             return false;
         }
-        let held = u64::from(job.period) * u64::from(quantum) * left;
+        let held = u64::from(job.period) * u64::from(quantum) * load.left;
         held < u64::from(job.cost) * u64::from(quantum + others) * WHOLE
     }
 }
@@ -143,32 +166,34 @@ impl<I: Iteration> Workload<I> {
 
     /// One of the two bounds: the largest response beside a sum of other quanta and below a set.
     fn run_bound(&self, above: u8, job: &Job, quantum: u32, others: u32) -> u16 {
-        let left = self.iteration.left(|| self.free(above));
-        if self.iteration.runs_on(job, quantum, others, left) {
+        let load = self.iteration.load(|| self.load(above));
+        if self.iteration.runs_on(job, quantum, others, load) {
             return 0;
         }
-        self.largest_response(above, left, job, quantum, others)
+        self.largest_response(above, load, job, quantum, others)
     }
 
-    /// The largest response up to the first instance that finishes by its next release; 0 where a
-    /// response is over the deadline, or where the last instance still runs on.
-    fn largest_response(&self, above: u8, left: u64, job: &Job, quantum: u32, others: u32) -> u16 {
+    /// The largest response up to the first instance that finishes by its next release, the delay
+    /// counted in both; 0 where a response is over the deadline, or where the last instance still
+    /// runs on.
+    fn largest_response(&self, above: u8, load: Load, job: &Job, quantum: u32, others: u32) -> u16 {
         let (cost, period) = (u32::from(job.cost), u32::from(job.period));
+        let (deadline, delay) = (u32::from(job.deadline), u32::from(job.delay));
         let mut largest = 0;
         let mut before = 0;
         for instance in 0..INSTANCES {
             let release = instance * period;
             let own = own_demand((instance + 1) * cost, quantum, others);
-            let limit = release + u32::from(job.deadline);
-            let finish = match self.iteration.start(own, left, before) {
+            let limit = (release + deadline).saturating_sub(delay);
+            let finish = match self.iteration.start(own, load, before) {
                 Some(start) => self.time_from(above, own, limit, start),
                 None => 0,
             };
             if finish == 0 {
                 return 0;
             }
-            largest = largest.max(finish - release);
-            if finish <= release + period {
+            largest = largest.max(finish + delay - release);
+            if finish + delay <= release + period {
                 return largest as u16;
             }
             before = finish;
@@ -193,12 +218,12 @@ impl<I: Iteration> Workload<I> {
         self.far_time(above, own, limit, time)
     }
 
-    /// The same with estimates: between two steps the jobs with short periods count by what they
-    /// leave of the processor.
+    /// The same with estimates: between two steps the jobs with short periods count by their load.
     fn far_time(&self, above: u8, own: u64, limit: u32, start: u64) -> u32 {
         let long = above & !self.short_jobs(start / SHORT_PART);
         let short = above & !long;
-        let left = self.free(short).max(1);
+        let mut load = self.load(short);
+        load.left = load.left.max(1);
         let mut time = start;
         while time <= u64::from(limit) {
             let part = own + self.interference(long, time as u32);
@@ -206,7 +231,7 @@ impl<I: Iteration> Workload<I> {
             if next <= time {
                 return if next == time { time as u32 } else { 0 };
             }
-            time = next.max(part * WHOLE / left);
+            time = next.max(load.earliest(part));
         }
         0
     }
@@ -222,15 +247,19 @@ impl<I: Iteration> Workload<I> {
         set
     }
 
-    /// What a set of jobs leaves of the processor.
-    fn free(&self, set: u8) -> u64 {
-        let mut taken = 0;
+    /// The load of a set of jobs.
+    fn load(&self, set: u8) -> Load {
+        let (mut taken, mut carried) = (0, 0);
         for (place, share) in self.shares.iter().enumerate() {
             if contains(set, place) {
                 taken += u64::from(*share);
+                carried += u64::from(self.jobs[place].delay) * u64::from(*share);
             }
         }
-        WHOLE.saturating_sub(taken)
+        Load {
+            left: WHOLE.saturating_sub(taken),
+            carried,
+        }
     }
 
     fn interference(&self, above: u8, time: u32) -> u64 {
@@ -238,7 +267,8 @@ impl<I: Iteration> Workload<I> {
         let mut sum = 0;
         for (place, job) in self.jobs.iter().enumerate() {
             if contains(above, place) {
-                sum += u64::from(time.div_ceil(u32::from(job.period))) * u64::from(job.cost);
+                let span = time + u32::from(job.delay);
+                sum += u64::from(span.div_ceil(u32::from(job.period))) * u64::from(job.cost);
             }
         }
         sum
