@@ -1,5 +1,6 @@
 /* Ruzhtylen's entries for callers in C: link target/staticlib/libcapi.a, which `rt staticlib capi` writes.
-   A slice is a pointer and its length. Blocks are those of the scope document, two-byte numbers with the high byte first.
+   A slice is a pointer and its length. Blocks are those of the scope document, two-byte numbers with the high byte first; the second
+   byte of a job record is the job's delay.
    Any input gets an answer. Byte 0 of an answer, its lowest, is the refusal's number, 0 for none; a refusal changes nothing lent.
    Bytes of an output past the need stay. */
 #ifndef RUZHTYLEN_H
