@@ -1,7 +1,7 @@
 -- Laws of division rounded up. Assumes nothing.
 use Prim.Native.Nat.{ℕ, zero, suc, _+_, _*_, _/_, _-_, _^_, _≤_, _<_, zero-le}
 use mathlib.Core.Path.{_≡_, refl, sym, _∙_}
-use native.Mathlib.Nat.{le-refl, le-trans, mul-le-mul, mul-le-mul-left, mul-le-mul-right, le-div-iff-mul-le, div-mul-le-self, div-zero, zero-lt-suc, lt-mul-div-succ, div-lt-iff-lt-mul, mul-comm, mul-assoc, add-mul}
+use native.Mathlib.Nat.{le-refl, mul-le-mul, mul-le-mul-left, mul-le-mul-right, le-div-iff-mul-le, div-mul-le-self, div-zero, zero-lt-suc, lt-mul-div-succ, div-lt-iff-lt-mul, mul-comm, mul-assoc, add-mul}
 use native.Mathlib.Omega.{arith}
 use Rattle.response.specs.Demand.{ceilDiv}
 

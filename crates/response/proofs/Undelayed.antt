@@ -9,7 +9,7 @@ use Rattle.sets.specs.Sets.{Set}
 use Rattle.sets.proofs.Places.{over-same}
 use Rattle.records.specs.Jobs.{jobAt, NoDelay}
 use Rattle.records.specs.declared.job.Job.{Job}
-use Rattle.response.specs.Demand.{ceilDiv, work, interference, layerShare, demand, least, finish, plusDelay, Reached, none, larger, responseOf, run, mostInstances, largestResponse, firstBound, withNeighbours, only, secondBound, lesser, bound}
+use Rattle.response.specs.Demand.{ceilDiv, work, interference, layerShare, demand, least, finish, plusDelay, Reached, none, larger, responseOf, run, mostInstances, largestResponse, firstBound, withNeighbours, only, lesser, bound}
 use Rattle.response.specs.Undelayed.{undelayedInterference, undelayedDemand, oneInstanceBound, undelayedFinish, undelayedFirst, undelayedBound}
 use Rattle.response.proofs.Least.{least-found}
 use Rattle.response.proofs.Runs.{larger-max, run-none, run-closed}
