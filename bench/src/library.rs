@@ -4,52 +4,65 @@
 type MarkEntry =
     unsafe extern "C" fn(*const u8, usize, u8, u8, *const u8, usize, *mut u8, usize) -> u32;
 
+/// An entry that is given a job block, a range and the outputs for a configuration and bounds.
+type PlanEntry =
+    unsafe extern "C" fn(*const u8, usize, u8, u8, *mut u8, usize, *mut u8, usize) -> u32;
+
+/// The entries of one version of the library that work on configurations, under the names that
+/// they have in its archive.
+macro_rules! version {
+    ($bounds:literal, $mark:literal, $plan:literal) => {
+        extern "C" {
+            #[link_name = $bounds]
+            pub fn bounds(
+                jobs: *const u8,
+                jobs_length: usize,
+                low: u8,
+                high: u8,
+                configuration: *const u8,
+                configuration_length: usize,
+                bounds: *mut u8,
+                bounds_length: usize,
+            ) -> u32;
+
+            #[link_name = $mark]
+            pub fn mark(
+                jobs: *const u8,
+                jobs_length: usize,
+                low: u8,
+                high: u8,
+                configuration: *const u8,
+                configuration_length: usize,
+                bounds: *mut u8,
+                bounds_length: usize,
+            ) -> u32;
+
+            #[link_name = $plan]
+            pub fn plan(
+                jobs: *const u8,
+                jobs_length: usize,
+                low: u8,
+                high: u8,
+                configuration: *mut u8,
+                configuration_length: usize,
+                bounds: *mut u8,
+                bounds_length: usize,
+            ) -> u32;
+        }
+    };
+}
+
 mod entries {
-    #[link(name = "capi", kind = "static")]
+    version!("ruzhtylen_bounds", "ruzhtylen_mark", "ruzhtylen_plan");
+
     extern "C" {
-        pub fn ruzhtylen_bounds(
-            jobs: *const u8,
-            jobs_length: usize,
-            low: u8,
-            high: u8,
-            configuration: *const u8,
-            configuration_length: usize,
-            bounds: *mut u8,
-            bounds_length: usize,
-        ) -> u32;
-
-        pub fn ruzhtylen_mark(
-            jobs: *const u8,
-            jobs_length: usize,
-            low: u8,
-            high: u8,
-            configuration: *const u8,
-            configuration_length: usize,
-            bounds: *mut u8,
-            bounds_length: usize,
-        ) -> u32;
-
-        pub fn ruzhtylen_plan(
-            jobs: *const u8,
-            jobs_length: usize,
-            low: u8,
-            high: u8,
-            configuration: *mut u8,
-            configuration_length: usize,
-            bounds: *mut u8,
-            bounds_length: usize,
-        ) -> u32;
-
         pub fn ruzhtylen_same_bytes(
             a: *const u8,
             a_length: usize,
             b: *const u8,
             b_length: usize,
         ) -> u8;
-    }
 
-    #[link(name = "byte_loop", kind = "static")]
-    extern "C" {
         pub fn ruzhtylen_same_singly(
             a: *const u8,
             a_length: usize,
@@ -59,8 +72,14 @@ mod entries {
     }
 }
 
+/// The entries of another version, if `bench/run` was given one.
+#[cfg(before)]
+mod entries_before {
+    version!("before_bounds", "before_mark", "before_plan");
+}
+
 #[inline(always)]
-fn call(
+fn call_mark(
     entry: MarkEntry,
     jobs: &[u8],
     low: u8,
@@ -83,35 +102,18 @@ fn call(
     }
 }
 
-/// The bounds of a configuration block, full or not.
-pub fn bounds(jobs: &[u8], low: u8, high: u8, configuration: &[u8], bounds: &mut [u8]) -> u32 {
-    call(
-        entries::ruzhtylen_bounds,
-        jobs,
-        low,
-        high,
-        configuration,
-        bounds,
-    )
-}
-
-/// Marks a configuration block.
-pub fn mark(jobs: &[u8], low: u8, high: u8, configuration: &[u8], bounds: &mut [u8]) -> u32 {
-    call(
-        entries::ruzhtylen_mark,
-        jobs,
-        low,
-        high,
-        configuration,
-        bounds,
-    )
-}
-
-/// Plans a job block.
-pub fn plan(jobs: &[u8], low: u8, high: u8, configuration: &mut [u8], bounds: &mut [u8]) -> u32 {
+#[inline(always)]
+fn call_plan(
+    entry: PlanEntry,
+    jobs: &[u8],
+    low: u8,
+    high: u8,
+    configuration: &mut [u8],
+    bounds: &mut [u8],
+) -> u32 {
     // SAFETY: each pointer and length is of one slice that is lent for the call.
     unsafe {
-        entries::ruzhtylen_plan(
+        entry(
             jobs.as_ptr(),
             jobs.len(),
             low,
@@ -122,6 +124,38 @@ pub fn plan(jobs: &[u8], low: u8, high: u8, configuration: &mut [u8], bounds: &m
             bounds.len(),
         )
     }
+}
+
+/// The entries over slices.
+macro_rules! over_slices {
+    ($entries:ident) => {
+        /// The bounds of a configuration block, full or not.
+        pub fn bounds(jobs: &[u8], low: u8, high: u8, configuration: &[u8], out: &mut [u8]) -> u32 {
+            super::call_mark(super::$entries::bounds, jobs, low, high, configuration, out)
+        }
+
+        /// Marks a configuration block.
+        pub fn mark(jobs: &[u8], low: u8, high: u8, configuration: &[u8], out: &mut [u8]) -> u32 {
+            super::call_mark(super::$entries::mark, jobs, low, high, configuration, out)
+        }
+
+        /// Plans a job block.
+        pub fn plan(jobs: &[u8], low: u8, high: u8, out: &mut [u8], bounds: &mut [u8]) -> u32 {
+            super::call_plan(super::$entries::plan, jobs, low, high, out, bounds)
+        }
+    };
+}
+
+mod now {
+    over_slices!(entries);
+}
+
+pub use now::{bounds, mark, plan};
+
+/// Another version of the library.
+#[cfg(before)]
+pub mod before {
+    over_slices!(entries_before);
 }
 
 /// Whether two blocks are the same bytes.

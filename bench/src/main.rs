@@ -2,7 +2,8 @@
 //! for each figure.
 //!
 //! Words: `quick` measures less; `seed=N` draws other lists; letters such as `ad` name the measures
-//! to run instead of all.
+//! to run instead of all, or, against another version of the product, instead of those that have it
+//! for their other side.
 
 mod calls;
 mod counted;
@@ -12,6 +13,7 @@ mod late_families;
 mod library;
 mod lists;
 mod measures;
+mod opponent;
 mod plain;
 mod pruned;
 mod random;
@@ -44,12 +46,16 @@ struct Request {
 
 impl Request {
     fn of_words(words: impl Iterator<Item = String>) -> Option<Request> {
+        let all: String = MEASURES.map(|(letter, _)| letter).iter().collect();
         let mut request = Request {
             quick: false,
             seed: 1,
-            letters: MEASURES.map(|(letter, _)| letter).iter().collect(),
+            letters: if cfg!(before) {
+                "acde".into()
+            } else {
+                all.clone()
+            },
         };
-        let all = request.letters.clone();
         let is_letter = |letter| all.contains(letter);
         for word in words {
             if word == "quick" {

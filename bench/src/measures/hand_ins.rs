@@ -4,9 +4,10 @@ use crate::calls::Case;
 use crate::library;
 use crate::lists::{self, Kind, Kinds};
 use crate::measures::{check_marks, time_marks, Scale};
+use crate::opponent::OPPONENT;
 use crate::random::Random;
 use crate::report;
-use crate::same::{marker, MOST_JOBS};
+use crate::same::MOST_JOBS;
 
 const RANGE: (u8, u8) = (1, 64);
 
@@ -29,9 +30,9 @@ fn hand_in(random: &mut Random, kinds: &Kinds) -> Case {
 fn run_kinds(scale: &Scale, random: &mut Random, kinds: &Kinds, name: &str) {
     let case = |_| hand_in(random, kinds);
     let cases: Vec<Case> = (0..scale.hand_ins).map(case).collect();
-    check_marks(&cases, library::mark, marker::mark);
-    let times = time_marks(&cases, scale.effort, library::mark, marker::mark);
-    report::per_second(name, &times, "rust");
+    check_marks(&cases, library::mark, OPPONENT.mark);
+    let times = time_marks(&cases, scale.effort, library::mark, OPPONENT.mark);
+    report::per_second(name, &times, OPPONENT.name);
 }
 
 pub fn run(scale: &Scale) {

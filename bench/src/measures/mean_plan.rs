@@ -4,9 +4,10 @@ use crate::calls::Case;
 use crate::library;
 use crate::lists::{self, Kind, Kinds};
 use crate::measures::{check_plans, time_plans, Scale};
+use crate::opponent::OPPONENT;
 use crate::random::Random;
 use crate::report;
-use crate::same::{planner, MOST_JOBS};
+use crate::same::MOST_JOBS;
 
 /// The goal for the mean over lists with deadlines within the periods, in seconds.
 const GOAL: f64 = 0.2e-3;
@@ -21,9 +22,9 @@ fn run_kinds(scale: &Scale, random: &mut Random, kinds: &Kinds, goal: Option<f64
             Case::plan(&lists::list(random, *kind, MOST_JOBS, load), RANGE)
         };
         let cases: Vec<Case> = (0..scale.lists).map(case).collect();
-        check_plans(&cases, library::plan, planner::plan);
-        let times = time_plans(&cases, scale.effort, library::plan, planner::plan);
-        report::within(&format!("e mean plan, {name}"), &times, "rust", goal);
+        check_plans(&cases, library::plan, OPPONENT.plan);
+        let times = time_plans(&cases, scale.effort, library::plan, OPPONENT.plan);
+        report::within(&format!("e mean plan, {name}"), &times, OPPONENT.name, goal);
     }
 }
 

@@ -1,14 +1,13 @@
-//! Measure a: bounds, mark and plan against the same algorithm in Rust, over random lists.
+//! Measure a: bounds, mark and plan against the same algorithm in Rust, or against another version,
+//! over random lists.
 
 use crate::calls::Case;
 use crate::library;
 use crate::lists::{self, Kind, Kinds};
 use crate::measures::{check_marks, check_plans, time_marks, time_plans, Scale};
+use crate::opponent::OPPONENT;
 use crate::random::Random;
 use crate::report::{ratio, Goal};
-use crate::same::{marker, planner};
-
-const GOAL: f64 = 1.25;
 
 /// Calls for random lists of some kinds with any levels.
 fn configurations(random: &mut Random, kinds: &Kinds, count: usize, full: bool) -> Vec<Case> {
@@ -23,24 +22,25 @@ fn configurations(random: &mut Random, kinds: &Kinds, count: usize, full: bool) 
 
 /// The three entries over lists of some kinds; the names of the lines end in some words.
 fn compare(scale: &Scale, random: &mut Random, kinds: &Kinds, ending: &str) {
-    let goal = || Goal::AtMost(GOAL);
+    let other = OPPONENT;
+    let goal = || Goal::AtMost(other.goal);
 
     let cases = configurations(random, kinds, scale.hand_ins, false);
-    check_marks(&cases, library::bounds, marker::bounds);
-    let times = time_marks(&cases, scale.effort, library::bounds, marker::bounds);
-    ratio(&format!("a bounds{ending}"), &times, "rust", goal());
+    check_marks(&cases, library::bounds, other.bounds);
+    let times = time_marks(&cases, scale.effort, library::bounds, other.bounds);
+    ratio(&format!("a bounds{ending}"), &times, other.name, goal());
 
     let cases = configurations(random, kinds, scale.hand_ins, true);
-    check_marks(&cases, library::mark, marker::mark);
-    let times = time_marks(&cases, scale.effort, library::mark, marker::mark);
-    ratio(&format!("a mark{ending}"), &times, "rust", goal());
+    check_marks(&cases, library::mark, other.mark);
+    let times = time_marks(&cases, scale.effort, library::mark, other.mark);
+    ratio(&format!("a mark{ending}"), &times, other.name, goal());
 
     let cases: Vec<Case> = (0..scale.lists)
         .map(|_| Case::plan(&lists::mixed_list(random, kinds), lists::range(random)))
         .collect();
-    check_plans(&cases, library::plan, planner::plan);
-    let times = time_plans(&cases, scale.effort, library::plan, planner::plan);
-    ratio(&format!("a plan{ending}"), &times, "rust", goal());
+    check_plans(&cases, library::plan, other.plan);
+    let times = time_plans(&cases, scale.effort, library::plan, other.plan);
+    ratio(&format!("a plan{ending}"), &times, other.name, goal());
 }
 
 pub fn run(scale: &Scale) {

@@ -9,11 +9,12 @@ use crate::families::{mutated, Changes, Family, FAMILIES};
 use crate::late_families::LATE_FAMILIES;
 use crate::library;
 use crate::measures::{check_plans, time_plans, Scale};
+use crate::opponent::OPPONENT;
 use crate::plain;
 use crate::random::Random;
 use crate::report::{self, Goal};
 use crate::same::job::Job;
-use crate::same::planner::{self, Raising};
+use crate::same::planner::Raising;
 use crate::timing::{Effort, Sides};
 use std::cmp::Reverse;
 
@@ -142,13 +143,13 @@ impl Search {
         let random = &mut Random::of_measure(scale.seed, self.source);
         let found = self.slowest(random, scale.search_work * self.times_work);
         let cases = [Case::plan(&found.jobs, RANGE)];
-        check_plans(&cases, library::plan, planner::plan);
+        check_plans(&cases, library::plan, OPPONENT.plan);
         let effort = Effort {
             pairs: scale.effort.pairs.min(self.most_pairs),
             ..scale.effort
         };
-        let times = time_plans(&cases, effort, library::plan, planner::plan);
-        report::within(self.name, &times, "rust", Some(self.goal));
+        let times = time_plans(&cases, effort, library::plan, OPPONENT.plan);
+        report::within(self.name, &times, OPPONENT.name, Some(self.goal));
         let texts: Vec<String> = found.jobs.iter().map(|job| self.text(job)).collect();
         report::note(&format!("seed {}: {}", scale.seed, texts.join(" ")));
     }

@@ -185,6 +185,9 @@ impl<I: Iteration> Workload<I> {
             let release = instance * period;
             let own = own_demand((instance + 1) * cost, quantum, others);
             let limit = (release + deadline).saturating_sub(delay);
+            if u64::from(limit) < own {
+                return 0;
+            }
             let finish = match self.iteration.start(own, load, before) {
                 Some(start) => self.time_from(above, own, limit, start),
                 None => 0,

@@ -2,7 +2,7 @@
 ghost use mathlib.Core.Path.{_≡_};
 ghost use Prim.Native.Nat.{_<_};
 ghost use Rattle.records.specs.Jobs.{readJobs};
-ghost use Rattle.records.specs.Same.{sameBytes};
+ghost use Rattle.same_bytes.specs.Same.{sameBytes};
 ghost use Rattle.marker.specs.Marks.{boundsAnswer, boundsOutcome, markAnswer, markOutcome};
 ghost use Rattle.planner.specs.Plans.{planAnswer, planOutcome};
 ghost use Rattle.capi.specs.Words.{word, inWords, countValue, noValue, truthValue, planValue};
@@ -100,7 +100,7 @@ pub extern "C" fn ruzhtylen_plan(
 pub extern "C" fn ruzhtylen_same_bytes(a: &[u8], b: &[u8]) -> u8
     ensures { λ r. ⌜ r ≡ truthValue (sameBytes (now (a .entry)) (now (b .entry))) ⌝ }
 {
-    if records::same::same_bytes(a, b) {
+    if same_bytes::same_bytes(a, b) {
         return 1;
     }
     0

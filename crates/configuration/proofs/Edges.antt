@@ -2,14 +2,12 @@
 -- statement. Assumes nothing.
 use Prim.Native.Nat.{ℕ}
 use mathlib.Core.Path.{_≡_, refl}
-use mathlib.Core.Bool.{Bool, true, _&&_}
-use mathlib.Core.List.{List, [], _∷_, _++_}
+use mathlib.Core.List.{List, [], _∷_, _++_, map}
 use Rattle.sets.specs.Places.{every, sum, sumOver, count}
 use Rattle.records.specs.Records.{wordBytes, flat, chunks}
 use Rattle.records.specs.Refusals.{Answer, refused, given}
 use Rattle.records.specs.Jobs.{jobOf, timesOk}
-use Rattle.records.specs.Same.{sameBytes}
-use Rattle.records.proofs.Cases.{row, agree}
+use Rattle.records.proofs.Cases.{row}
 use Rattle.configuration.specs.Settings.{settingBytes, settingsIn}
 use Rattle.configuration.specs.Configuration.{placedLevel, shaped, levelled}
 use Rattle.configuration.specs.Blocks.{readConfiguration, writeConfiguration}
@@ -20,15 +18,14 @@ pub data Case : Type 0 where
   read : List ℕ → ℕ → ℕ → List ℕ → Answer ℕ → Case
   written : List ℕ → ℕ → ℕ → List ℕ → ℕ → List ℕ → Answer ℕ → List ℕ → Case
 
-pub right : Case → Bool
-right (read jobs low high block a) = agree (readConfiguration jobs low high block .0) a
-right (written jobs low high block entries output a after) =
-    let o = writeConfiguration jobs low high entries (settingsIn 3 block) output in
-    agree (o .0) a && sameBytes (o .1) after
+-- What the reader answers, and what the writer answers with the output at exit.
+pub answered : Case → Answer ℕ × List ℕ
+answered (read jobs low high block a) = (readConfiguration jobs low high block .0, [])
+answered (written jobs low high block entries output a after) = writeConfiguration jobs low high entries (settingsIn 3 block) output
 
-pub all : List Case → Bool
-all [] = true
-all (c ∷ cases) = right c && all cases
+pub due : Case → Answer ℕ × List ℕ
+due (read jobs low high block a) = (a, [])
+due (written jobs low high block entries output a after) = (a, after)
 
 -- Three jobs, and a configuration of them: the first alone on level 3, the others on level 1.
 pub three : List ℕ
@@ -70,6 +67,6 @@ cases =
     ∷ written three 1 64 good 3 (9 ∷ 9 ∷ 9 ∷ 9 ∷ 9 ∷ 9 ∷ 9 ∷ 9 ∷ 9 ∷ 9 ∷ 9 ∷ []) (refused 12) (9 ∷ 9 ∷ 9 ∷ 9 ∷ 9 ∷ 9 ∷ 9 ∷ 9 ∷ 9 ∷ 9 ∷ 9 ∷ [])
     ∷ []
 
-pub edges : all cases ≡ true
-unfolding row agree sameBytes right all three good cases every sum sumOver count wordBytes flat chunks jobOf timesOk settingBytes placedLevel shaped levelled readConfiguration writeConfiguration
+pub edges : map answered cases ≡ map due cases
+unfolding row answered due three good cases every sum sumOver count wordBytes flat chunks jobOf timesOk settingBytes placedLevel shaped levelled readConfiguration writeConfiguration
 edges = refl

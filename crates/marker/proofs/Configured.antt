@@ -16,10 +16,10 @@ use Rattle.records.specs.declared.job.Job.{Job}
 use Rattle.configuration.specs.declared.setting.Setting.{Setting}
 use Rattle.configuration.specs.Settings.{blankSetting, settingAt, levelAt}
 use Rattle.response.specs.Demand.{bound}
-use Rattle.response.specs.Search.{plainWorkload, boundBy}
+use Rattle.search.specs.Search.{plainWorkload, boundBy}
 use Rattle.response.proofs.Easier.{bound-same, bound-take}
-use Rattle.response.proofs.Utilisation.{bound-plain}
-use Rattle.response.specs.declared.workload.Workload.{Workload}
+use Rattle.search.proofs.BothBounds.{bound-plain}
+use Rattle.search.specs.declared.workload.Workload.{Workload}
 use Rattle.marker.specs.Bounds.{quantaOf, layerOf, aboveOf, boundAt, boundsOf, isPlaced}
 
 -- ---- a job's bound, by its level

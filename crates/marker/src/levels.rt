@@ -5,12 +5,12 @@ ghost use lib.ListN.{take};
 ghost use Rattle.sets.specs.Sets.{Collects};
 ghost use Rattle.records.specs.Limits.{mostJobs};
 ghost use Rattle.records.specs.Records.{table};
-ghost use Rattle.response.specs.Search.{plainWorkload};
+ghost use Rattle.search.specs.Search.{plainWorkload};
 ghost use Rattle.marker.specs.Bounds.{quantaOf, boundAt, boundsOf};
 ghost use Rattle.marker.specs.Relations.{standing, stands};
 use configuration::setting::Setting;
 use records::job::Job;
-use response::workload::Workload;
+use search::workload::Workload;
 
 // How a level stands to another.
 pub enum Relation {

@@ -11,7 +11,7 @@ use configuration::setting::Setting;
 use records::block::JobsAnswer;
 use records::job::Job;
 use records::refusal::Refusal;
-use response::workload::Workload;
+use search::workload::Workload;
 
 pub mod block;
 mod bytes;

@@ -21,8 +21,8 @@ use Rattle.configuration.specs.declared.setting.Setting.{Setting}
 use Rattle.configuration.specs.Settings.{settingSize, settingBytes, blankSetting, settingTable}
 use Rattle.configuration.specs.Blocks.{settingsWritten, roomTests as settingsRoom, writeSettings}
 use Rattle.configuration.proofs.Shapes.{shapes}
-use Rattle.response.specs.Search.{workload}
-use Rattle.response.specs.declared.workload.Workload.{Workload}
+use Rattle.search.specs.Search.{workload}
+use Rattle.search.specs.declared.workload.Workload.{Workload}
 use Rattle.marker.specs.Bounds.{boundAt}
 use Rattle.marker.specs.Marks.{boundSize, boundsWritten, roomTests as boundsRoom, writeBounds}
 use Rattle.assignment.specs.Plan.{Plan, Stage, planFrom, start, plan}

@@ -17,10 +17,10 @@ use Rattle.records.specs.Limits.{mostJobs}
 use Rattle.records.specs.Jobs.{blankJob, jobAt}
 use Rattle.records.specs.declared.job.Job.{Job}
 use Rattle.response.specs.Demand.{bound}
-use Rattle.response.specs.Search.{workload, boundBy}
-use Rattle.response.specs.declared.workload.Workload.{Workload}
+use Rattle.search.specs.Search.{workload, boundBy}
+use Rattle.search.specs.declared.workload.Workload.{Workload}
 use Rattle.response.proofs.Easier.{bound-take}
-use Rattle.response.proofs.Utilisation.{bound-found}
+use Rattle.search.proofs.BothBounds.{bound-found}
 use Rattle.assignment.specs.Plan.{quantaFor}
 use Rattle.assignment.specs.Layers.{Hopeless, Settles}
 use Rattle.assignment.proofs.Serving.{Costs}

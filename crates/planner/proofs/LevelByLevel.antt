@@ -15,7 +15,7 @@ use Rattle.assignment.specs.Plan.{quantaIn, chosen, Stage, place, planFrom, sta
 use Rattle.assignment.proofs.Plays.{plan-stops, plan-goes}
 use Rattle.assignment.proofs.Planned.{start-less}
 use Rattle.planner.specs.declared.quanta.Question.{Question}
-use Rattle.planner.specs.declared.search.Choice.{Choice}
+use Rattle.planner.specs.declared.choice.Choice.{Choice}
 use Rattle.planner.specs.declared.levels.Progress.{Progress}
 use Rattle.planner.specs.Questions.{listed, Accepted}
 use Rattle.planner.specs.Stages.{finds, takeable, Chosen, progressOf, stageOf, lastStage, countAll}

@@ -11,7 +11,7 @@ use Rattle.records.specs.Limits.{mostJobs}
 use Rattle.records.specs.Jobs.{jobAt}
 use Rattle.records.specs.declared.job.Job.{Job}
 use Rattle.records.specs.declared.range.Range.{Range}
-use Rattle.response.specs.Search.{workload}
+use Rattle.search.specs.Search.{workload}
 use Rattle.assignment.specs.Layers.{Standing}
 use Rattle.planner.specs.declared.quanta.Question.{Question}
 use Rattle.planner.specs.declared.quanta.Quanta.{Quanta}

@@ -15,7 +15,7 @@ use Rattle.configuration.specs.Settings.{settingAt, settingTable}
 use Rattle.response.specs.Demand.{bound}
 use Rattle.assignment.specs.Plan.{isFound, quantaFor, chosen, Stage, settingIn, put, planFrom, start}
 use Rattle.planner.specs.declared.quanta.Question.{Question}
-use Rattle.planner.specs.declared.search.Choice.{Choice}
+use Rattle.planner.specs.declared.choice.Choice.{Choice}
 use Rattle.planner.specs.declared.levels.Progress.{Progress}
 use Rattle.planner.specs.Questions.{listed}
 

@@ -12,9 +12,9 @@ ghost use Rattle.response.specs.Demand.{bound};
 ghost use Rattle.assignment.specs.Plan.{settingIn, place as placeOf, start as startOf};
 ghost use Rattle.planner.specs.Questions.{listed, Accepted, Laid};
 ghost use Rattle.planner.specs.Stages.{settingsWith, boundsWith, progressOf, stageOf, lastStage, countAll};
+use crate::choice;
+use crate::choice::Choice;
 use crate::quanta::Question;
-use crate::search;
-use crate::search::Choice;
 use configuration::setting::Setting;
 use records::job::Job;
 
@@ -155,7 +155,7 @@ pub(crate) fn plan_levels(question: Question) -> Progress
     let mut progress = start(question);
     let mut level = question.n;
     while 0 < level {
-        let choice = search::choose(question, progress.left);
+        let choice = choice::choose(question, progress.left);
         if choice.set == 0 {
             progress.considered += choice.considered;
             return progress;

@@ -14,11 +14,11 @@ use records::job::Job;
 use records::range::NewRange;
 use records::range::Range;
 use records::refusal::Refusal;
-use response::workload::Workload;
+use search::workload::Workload;
 
+mod choice;
 mod levels;
 mod quanta;
-mod search;
 
 // What the planner answers: the placed set's number and the count of sets considered.
 pub enum PlanAnswer {

@@ -10,7 +10,7 @@ ghost use Rattle.assignment.specs.Plan.{quantaFor};
 ghost use Rattle.assignment.specs.Layers.{Standing, Hopeless, Raises, Settles};
 ghost use Rattle.planner.specs.Questions.{listed, lowestQuanta, Accepted, Laid, Pending, offered};
 use records::job::Job;
-use response::workload::Workload;
+use search::workload::Workload;
 
 // What the planner is asked: the jobs with their utilisations, their number, and the range of quanta.
 pub struct Question {

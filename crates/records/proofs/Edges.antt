@@ -1,27 +1,26 @@
 -- The edges of 01 that concern job blocks and ranges, and two faults at once: one table, one computed statement. Assumes nothing.
 use Prim.Native.Nat.{ℕ}
 use mathlib.Core.Path.{_≡_, refl}
-use mathlib.Core.Bool.{Bool, true, _&&_}
-use mathlib.Core.List.{List, [], _∷_, _++_}
+use mathlib.Core.List.{List, [], _∷_, _++_, map}
 use Rattle.sets.specs.Places.{every}
 use Rattle.records.specs.Records.{wordBytes, chunks}
 use Rattle.records.specs.Refusals.{Answer, refused, given, answer}
 use Rattle.records.specs.Jobs.{jobOf, timesOk, readJobs}
 use Rattle.records.specs.Ranges.{rangeTests}
-use Rattle.records.proofs.Cases.{row, agree}
+use Rattle.records.proofs.Cases.{row}
 
 -- A case: what a call was asked, in 01's numbers and values, and what it is to answer; a range is answered by 0.
 pub data Case : Type 0 where
   block : List ℕ → Answer ℕ → Case
   range : ℕ → ℕ → Answer ℕ → Case
 
-pub right : Case → Bool
-right (block s a) = agree (readJobs s .0) a
-right (range low high a) = agree (answer (rangeTests low high) 0) a
+pub answered : Case → Answer ℕ
+answered (block s a) = readJobs s .0
+answered (range low high a) = answer (rangeTests low high) 0
 
-pub all : List Case → Bool
-all [] = true
-all (c ∷ cases) = right c && all cases
+pub due : Case → Answer ℕ
+due (block s a) = a
+due (range low high a) = a
 
 pub eight : List ℕ
 eight =
@@ -70,6 +69,6 @@ cases =
     ∷ range 5 4 (refused 6)
     ∷ []
 
-pub edges : all cases ≡ true
-unfolding row agree right all eight cases every wordBytes chunks jobOf timesOk readJobs
+pub edges : map answered cases ≡ map due cases
+unfolding row answered due eight cases every wordBytes chunks jobOf timesOk readJobs
 edges = refl

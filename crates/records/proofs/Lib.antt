@@ -3,9 +3,6 @@ pub mod FixedWidth
 pub mod JobRecords
 pub mod JobTests
 pub mod RoundTrip
-pub mod Equality
-pub mod Parts
-pub mod RecordNumbers
 pub mod RefusalNumbers
 pub mod Reading
 pub mod RangeTests

@@ -28,7 +28,7 @@ use Rattle.records.specs.declared.block.Wrote.the-variants.{Bytes, NotWr
 abbrev pub jobSize : ℕ
 jobSize = 8
 
--- The job in the first bytes of a block: id, delay (02, E4), cost, period, deadline.
+-- The job in the first bytes of a block: id, delay (02, E4: J; the field's release jitter), cost, period, deadline.
 unfoldable pub jobOf : List ℕ → Job
 jobOf block =
     record {

@@ -3,4 +3,3 @@ pub mod Refusals
 pub mod Records
 pub mod Jobs
 pub mod Ranges
-pub mod Same

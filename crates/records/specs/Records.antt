@@ -11,10 +11,6 @@ word high low = high * 256 + low
 unfoldable pub wordBytes : ℕ → List ℕ
 wordBytes x = x / 256 ∷ x % 256 ∷ []
 
--- Four bytes as one number of 32 bits (02, E3). It serves to tell records apart, which any order of the bytes does.
-abbrev pub recordNumber : ℕ → ℕ → ℕ → ℕ → ℕ
-recordNumber first second third fourth = first + second * 256 + third * 65536 + fourth * 16777216
-
 -- Each number of a list is a byte.
 abbrev pub AllBytes : List ℕ → Type 0
 AllBytes s = (i : ℕ) → getD s i 0 < 256

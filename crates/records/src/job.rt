@@ -6,7 +6,7 @@ use crate::refusal::Refusal;
 
 pub struct Job {
     pub id: u8,
-    // How late its releases may be noticed, in ticks.
+    // How late its releases may be noticed, in ticks: the release jitter.
     pub delay: u8,
     pub cost: u16,
     pub period: u16,

@@ -5,5 +5,4 @@ pub mod job;
 mod judge;
 pub mod range;
 pub mod refusal;
-pub mod same;
 pub mod word;

@@ -1,7 +1,7 @@
 -- Laws of division rounded up. Assumes nothing.
-use Prim.Native.Nat.{ℕ, zero, suc, _+_, _*_, _/_, _-_, _^_, _≤_, _<_, zero-le}
+use Prim.Native.Nat.{ℕ, zero, suc, _+_, _*_, _/_, _-_, _≤_, _<_, zero-le}
 use mathlib.Core.Path.{_≡_, refl, sym, _∙_}
-use native.Mathlib.Nat.{le-refl, mul-le-mul, mul-le-mul-left, mul-le-mul-right, le-div-iff-mul-le, div-mul-le-self, div-zero, zero-lt-suc, lt-mul-div-succ, div-lt-iff-lt-mul, mul-comm, mul-assoc, add-mul}
+use native.Mathlib.Nat.{le-refl, mul-le-mul-left, mul-le-mul-right, le-div-iff-mul-le, div-mul-le-self, div-zero, zero-lt-suc, lt-mul-div-succ, div-lt-iff-lt-mul, mul-comm, mul-assoc, add-mul}
 use native.Mathlib.Omega.{arith}
 use Rattle.response.specs.Demand.{ceilDiv}
 
@@ -55,7 +55,3 @@ ceil-one t delay (suc y) =
     let more : t * 1 ≤ t * (1 + delay) = mul-le-mul-left t (omega arith) in
     let split : suc t * (1 + delay) ≡ 1 + delay + t * (1 + delay) = omega arith in
     ceil-least (t + delay) (suc y) (suc t * c) (zero-lt-suc y) (omega (arith, sym (mul-assoc (suc t) c (suc y)), once, more, split))
-
--- The product of a quotient and a 16-bit number.
-pub product-lt : (x y : ℕ) → x < 2 ^ 23 → y < 2 ^ 16 → x * y < 2 ^ 39
-product-lt x y hx hy = let m : x * y ≤ 8388607 * 65535 = mul-le-mul {n₂ = 8388607} {m₂ = 65535} (omega arith) (omega arith) in omega arith

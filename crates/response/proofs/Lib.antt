@@ -4,8 +4,4 @@ pub mod Runs
 pub mod Lesser
 pub mod Easier
 pub mod Undelayed
-pub mod Climbing
-pub mod Blocking
-pub mod Utilisation
-pub mod Loops
 pub mod Worked

@@ -1,13 +1,11 @@
--- The run of a job's instances: it goes by the finishes alone, finishes that are no later keep it closing, and how it is found.
--- Assumes nothing.
-use mathlib.Core.Path.{_≡_, refl, sym, _∙_, ap, ap₂}
+-- The run of a job's instances: it goes by the finishes alone, and finishes that are no later keep it closing. Assumes nothing.
+use mathlib.Core.Path.{_≡_, refl, _∙_, ap}
 use mathlib.Core.Logic.{_≢_}
 use Prim.Native.Nat.{ℕ, zero, suc, _+_, _*_, _-_, _≤_, _<_, max}
 use native.Mathlib.Decide.{decLe, ℕ-discrete}
 use native.Mathlib.Omega.{arith}
 use borrow.Author.Tests.{eq-eqb, ne-eqb, le-leb, lt-leb, lt-ltb, le-ltb}
 use Rattle.response.specs.Demand.{plusDelay, Reached, none, larger, responseOf, run}
-use Rattle.response.specs.Search.{runBy}
 
 pub larger-max : (a b : Reached) → larger a b .response ≡ max (a .response) (b .response)
 unfolding larger
@@ -18,10 +16,10 @@ larger-max a b = elim (decLe (b .response) (a .response)) [
 
 -- ---- a finish plus the delay
 
-plus-none : (delay t : ℕ) → t ≡ 0 → plusDelay delay t ≡ 0
+pub plus-none : (delay t : ℕ) → t ≡ 0 → plusDelay delay t ≡ 0
 plus-none delay t e = ap (plusDelay delay) e
 
-plus-some : (delay t : ℕ) → t ≢ 0 → plusDelay delay t ≡ t + delay
+pub plus-some : (delay t : ℕ) → t ≢ 0 → plusDelay delay t ≡ t + delay
 plus-some delay zero h = absurd (h refl)
 plus-some delay (suc t) h = refl
 
@@ -80,70 +78,3 @@ run-never f period h (suc n) j b = elim (ℕ-discrete (f j) 0) [
   | yes z ↦ ap (λ (r : Reached). r .response) (run-none f period n j b z)
   | no z ↦ ap (λ (r : Reached). r .response) (run-open f period n j b z (h j (omega arith))) ∙ run-never f period h n (suc j) _
 ]
-
--- ---- as it is found
-
-module _ (found : ℕ → ℕ → ℕ) (delay period : ℕ) where
-  by-none : (n j before largest : ℕ) → found j before ≡ 0 → runBy found delay period (suc n) j before largest ≡ 0
-  unfolding runBy
-  by-none n j before largest e = rw (eq-eqb (found j before) 0 e)
-
-  by-closed : (n j before largest : ℕ) → found j before ≢ 0 → found j before + delay ≤ suc j * period
-      → runBy found delay period (suc n) j before largest ≡ max largest (found j before + delay - j * period)
-  unfolding runBy
-  by-closed n j before largest e h = rw (ne-eqb (found j before) 0 e, le-leb (found j before + delay) (suc j * period) h)
-
-  by-open : (n j before largest : ℕ) → found j before ≢ 0 → suc j * period < found j before + delay
-      → runBy found delay period (suc n) j before largest ≡ runBy found delay period n (suc j) (found j before) (max largest (found j before + delay - j * period))
-  unfolding runBy
-  by-open n j before largest e h = rw (ne-eqb (found j before) 0 e, lt-leb (found j before + delay) (suc j * period) h)
-
-  -- What is found is the response of the run, if each search from a time that is good for its instance finds its finish.
-  module _ (f : ℕ → ℕ) (Good : ℕ → ℕ → Type 0) (same : (j b : ℕ) → Good j b → found j b ≡ f j) (next : (j : ℕ) → 0 < f j → Good (suc j) (f j)) where
-    abbrev late : ℕ → ℕ
-    late j = plusDelay delay (f j)
-
-    pub run-found : (n j b : ℕ) (before : Reached) → Good j b → runBy found delay period n j b (before .response) ≡ run late period n j before .response
-    unfolding run runBy
-    run-found zero j b before good = refl
-    run-found (suc n) j b before good =
-        let e : found j b ≡ f j = same j b good in
-        elim (ℕ-discrete (f j) 0) [
-          | yes z ↦ by-none n j b (before .response) (e ∙ z) ∙ sym (ap (λ (r : Reached). r .response) (run-none late period n j before (plus-none delay (f j) z)))
-          | no z ↦
-              let l : late j ≡ f j + delay = plus-some delay (f j) z in
-              let some : late j ≢ 0 = λ q. z (omega arith) in
-              let most : max (before .response) (found j b + delay - j * period) ≡ larger before (responseOf period j (late j)) .response =
-              ap (λ (x : ℕ). max (before .response) (x - j * period)) (omega arith) ∙ sym (larger-max before (responseOf period j (late j))) in
-              elim (decLe (late j) (suc j * period)) [
-                | yes c ↦
-                    by-closed n j b (before .response) (λ q. z (sym e ∙ q)) (omega arith) ∙ most
-                    ∙ sym (ap (λ (r : Reached). r .response) (run-closed late period n j before some c))
-                | no c ↦
-                    by-open n j b (before .response) (λ q. z (sym e ∙ q)) (omega arith)
-                    ∙ ap₂ (runBy found delay period n (suc j)) e most
-                    ∙ run-found n (suc j) (f j) (larger before (responseOf period j (late j))) (next j (omega arith))
-                    ∙ sym (ap (λ (r : Reached). r .response) (run-open late period n j before some (omega arith)))
-              ]
-        ]
-
-  -- ---- the loop of the code, over n instances
-
-  module _ (n j before largest : ℕ) (h : j < n) where
-    left : n - j ≡ suc (n - suc j)
-    left = omega arith
-
-    pub turn-none : found j before ≡ 0 → runBy found delay period (n - j) j before largest ≡ 0
-    turn-none e = rw left (by-none (n - suc j) j before largest e)
-
-    pub turn-closed : found j before ≢ 0 → found j before + delay ≤ suc j * period
-        → runBy found delay period (n - j) j before largest ≡ max largest (found j before + delay - j * period)
-    turn-closed e c = rw left (by-closed (n - suc j) j before largest e c)
-
-    pub turn-open : found j before ≢ 0 → suc j * period < found j before + delay
-        → runBy found delay period (n - j) j before largest ≡ runBy found delay period (n - suc j) (suc j) (found j before) (max largest (found j before + delay - j * period))
-    turn-open e c = rw left (by-open (n - suc j) j before largest e c)
-
-  pub turn-out : (j before largest : ℕ) → runBy found delay period 0 j before largest ≡ 0
-  unfolding runBy
-  turn-out j before largest = refl

@@ -75,8 +75,8 @@ larger earlier later = elim (ltb (earlier .response) (later .response)) [ true �
 abbrev pub responseOf : ℕ → ℕ → ℕ → Reached
 responseOf period j finish = record { response = finish - j * period; instance = j }
 
--- The largest response "up to the first instance that finishes by (j+1)·T", among n instances from j on and the largest of those before;
--- none where a finish does not exist in reach or the last of the n instances still runs past its (j+1)·T. Each finish is one plus J: "an
+-- The run of a job's instances, the field's busy period: the largest response "up to the first instance that finishes by (j+1)·T", among n
+-- instances from j on and the largest of those before; none where a finish does not exist in reach or the last of the n instances still runs past its (j+1)·T. Each finish is one plus J: "an
 -- instance closes the run when its finish plus J is by (j+1)·T", and "instance 63 counts as running past 64·T when its finish plus J does".
 unfoldable pub run : (ℕ → ℕ) → ℕ → ℕ → ℕ → Reached → Reached
 run finishes period zero j before = none

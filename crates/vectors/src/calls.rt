@@ -82,7 +82,7 @@ pub fn plan(jobs: &[u8], low: u8, high: u8, settings: &mut [u8], bounds: &mut [u
 }
 
 pub fn same_bytes(a: &[u8], b: &[u8]) -> Reply {
-    if records::same::same_bytes(a, b) {
+    if same_bytes::same_bytes(a, b) {
         return reply::given(1, 0);
     }
     reply::given(0, 0)

@@ -4,8 +4,8 @@ use lib.ListN.{take}
 use Rattle.records.specs.Limits.{mostJobs}
 use Rattle.records.specs.Records.{table}
 use Rattle.records.specs.declared.job.Job.{Job}
-use Rattle.response.specs.Search.{plainWorkload}
-use Rattle.response.specs.declared.workload.Workload.{Workload}
+use Rattle.search.specs.Search.{plainWorkload}
+use Rattle.search.specs.declared.workload.Workload.{Workload}
 use Rattle.marker.specs.Bounds.{boundsOf}
 use borrow.Author.Needs.{needs}
 use Rattle.marker.proofs.put_bounds.Statement.{statement}

@@ -6,7 +6,7 @@ use lib.ListN.{length, take, length-map}
 use Rattle.sets.specs.Sets.{has}
 use Rattle.records.specs.Limits.{mostJobs}
 use Rattle.configuration.specs.Settings.{levelAt}
-use Rattle.response.specs.Search.{boundBy}
+use Rattle.search.specs.Search.{boundBy}
 use Rattle.marker.proofs.Configured.{bound-unplaced, bound-code}
 use borrow.Author.Needs.{needs}
 use Rattle.marker.proofs.levels.bound_of.Statement.{statement}

@@ -1,0 +1,4 @@
+pub mod Climbing
+pub mod Utilisation
+pub mod OneFinish
+pub mod Loops

@@ -1,0 +1,2 @@
+pub mod FoundRuns
+pub mod OneRun

@@ -1,0 +1,4 @@
+pub mod OtherQuanta
+pub mod Dropping
+pub mod Deciding
+pub mod BothBounds
