@@ -4,10 +4,10 @@
 use libc::STDERR_FILENO;
 use libc::STDIN_FILENO;
 use libc::STDOUT_FILENO;
+use lists::fault::Fault;
+use lists::list::ListAnswer;
 use records::block::Wrote;
 use records::job::Job;
-use text::fault::Fault;
-use text::list::ListAnswer;
 
 fn print_fault(line: u32, fault: Fault) {
     let mut output = [0u8; text::fault::SIZE];
@@ -32,7 +32,7 @@ fn main() {
         io::write_all(STDERR_FILENO, b"the text has 4096 bytes or more\n");
         return;
     }
-    let read = text::list::read_list(&buffer[..got]);
+    let read = lists::list::read_list(&buffer[..got]);
     let answer = read.answer;
     match answer {
         ListAnswer::Jobs(count) => {

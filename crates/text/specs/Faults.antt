@@ -1,9 +1,9 @@
 -- What is said of a faulty line of a job list: `line N: ` and what is wrong. Assumes nothing.
 use Prim.Native.Nat.{ℕ}
 use mathlib.Core.List.{List, [], _∷_, _++_}
-use Rattle.text.specs.Lines.{lineFeed, decimal}
-use Rattle.text.specs.declared.fault.Fault.{Fault}
-use Rattle.text.specs.declared.fault.Fault.the-variants.{NotANumber, TooLarge, NotFourOrFive, TooMany}
+use Rattle.lists.specs.Decimals.{lineFeed, decimal}
+use Rattle.lists.specs.declared.fault.Fault.{Fault}
+use Rattle.lists.specs.declared.fault.Fault.the-variants.{NotANumber, TooLarge, NotFourOrFive, TooMany}
 
 -- In the order of the cases: `a word is not a number`, `an id or a delay is above 255 or a number above 65535`,
 -- `not four numbers, or five: id cost period deadline delay` and `more than 8 jobs`.

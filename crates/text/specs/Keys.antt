@@ -11,7 +11,8 @@ use Rattle.configuration.specs.Settings.{settingSize, settingAt}
 use Rattle.marker.specs.Bounds.{isPlaced}
 use Rattle.marker.specs.Marks.{boundSize}
 use Rattle.assignment.specs.Plan.{Plan, plan}
-use Rattle.text.specs.Lines.{lineFeed, decimal, line, rowsTo}
+use Rattle.lists.specs.Decimals.{lineFeed, decimal}
+use Rattle.text.specs.Lines.{line, rowsTo}
 
 -- "A line per job (id, level, policy, quantum, bound)"; a job left over has four zeros after its id.
 abbrev pub jobLine : Plan → ℕ → List ℕ

@@ -1,4 +1,3 @@
 pub mod Lines
 pub mod Keys
-pub mod Lists
 pub mod Faults

@@ -1,29 +1,10 @@
--- Text as bytes of ASCII: numbers in decimal, lines, and what a function leaves that writes text to a buffer. Assumes nothing.
-use Prim.Native.Nat.{ℕ, zero, suc, _+_, _/_, _%_, _≤_}
+-- Lines of text as bytes of ASCII, and what a function leaves that writes text to a buffer. Assumes nothing.
+use Prim.Native.Nat.{ℕ, zero, suc, _+_, _≤_}
 use mathlib.Core.Path.{_≡_}
-use mathlib.Core.Bool.{cond}
 use mathlib.Core.List.{List, [], _∷_, _++_}
-use lib.Dec.{ltb}
 use lib.ListN.{length}
 use lib.Seq.{sets}
-
-abbrev pub space : ℕ
-space = 32
-
-abbrev pub lineFeed : ℕ
-lineFeed = 10
-
--- The digit of a number below 10.
-abbrev pub digit : ℕ → ℕ
-digit d = 48 + d
-
--- The decimal digits of n, the most significant first, for n below k.
-abbrev pub decimalBy : ℕ → ℕ → List ℕ
-decimalBy zero n = []
-decimalBy (suc k) n = cond (ltb n 10) (digit n ∷ []) (decimalBy k (n / 10) ++ (digit (n % 10) ∷ []))
-
-unfoldable pub decimal : ℕ → List ℕ
-decimal n = decimalBy (suc n) n
+use Rattle.lists.specs.Decimals.{space, lineFeed, decimal}
 
 -- Five numbers, "one space between", and a line feed.
 unfoldable pub line : ℕ → ℕ → ℕ → ℕ → ℕ → List ℕ

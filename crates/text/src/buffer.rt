@@ -3,7 +3,8 @@ ghost use mathlib.Core.Path.{_≡_};
 ghost use mathlib.Core.List.{_∷_, []};
 ghost use Prim.Native.Nat.{_+_, _%_, _≤_};
 ghost use lib.ListN.{length};
-ghost use Rattle.text.specs.Lines.{space, digit, decimal, Wrote};
+ghost use Rattle.lists.specs.Decimals.{space, digit, decimal};
+ghost use Rattle.text.specs.Lines.{Wrote};
 
 // The last decimal digit of n.
 fn last_digit(n: u32) -> u8

@@ -1,4 +1,4 @@
-// What can be wrong with a line of a job list, and how it is said.
+// What is said of a faulty line of a job list.
 ghost use mathlib.Core.Path.{_≡_};
 ghost use Prim.Native.Nat.{_+_, _≤_};
 ghost use lib.ListN.{length};
@@ -6,14 +6,7 @@ ghost use lib.Seq.{sets};
 ghost use Rattle.text.specs.Lines.{Wrote};
 ghost use Rattle.text.specs.Faults.{message, faultText};
 use crate::buffer;
-
-// The faults of a line.
-pub enum Fault {
-    NotANumber,
-    TooLarge,
-    NotFourOrFive,
-    TooMany,
-}
+use lists::fault::Fault;
 
 // The size of a buffer that holds what is said of any line.
 pub const SIZE: usize = 80;

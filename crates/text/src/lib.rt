@@ -1,6 +1,4 @@
-// The text of the key program, and job lists as text.
+// The text of the key program, and what is said of faulty lines.
 mod buffer;
 pub mod fault;
 pub mod key;
-pub mod list;
-mod words;

@@ -3,8 +3,8 @@ use mathlib.Core.Path.{sym, ap, _∙_}
 use mathlib.Core.List.{List}
 use native.Mathlib.Omega.{arith}
 use Rattle.records.specs.declared.job.Job.{Job}
-use Rattle.text.specs.Lists.{Reading, listAnswer}
-use Rattle.text.proofs.Listing.{fault-line}
+use Rattle.lists.specs.Lists.{Reading, listAnswer}
+use Rattle.lists.proofs.Listing.{fault-line}
 use borrow.Author.Needs.{needs}
 use Rattle.list.proofs.main.Statement.{statement}
 use Rattle.list.proofs.main.Tie as tie

@@ -4,8 +4,9 @@ use mathlib.Core.List.{[], _∷_, _++_}
 use native.Mathlib.Omega.{arith}
 use lib.ListN.{length}
 use borrow.Author.Needs.{needs}
-use Rattle.text.specs.Lines.{decimal}
-use Rattle.text.proofs.Writing.{decimal-one, decimal-more, length-one, length-more, decimal-short, then, same-length, retold, limited}
+use Rattle.lists.specs.Decimals.{decimal}
+use Rattle.lists.proofs.Decimal.{decimal-one, decimal-more, length-one, length-more, decimal-short}
+use Rattle.text.proofs.Writing.{then, same-length, retold, limited}
 use borrow.Fn.Kinds.{In}
 use borrow.Fn.PlainCycle.{Measures, is, falls, and}
 use Rattle.text.proofs.buffer.put_digits.Reads as put-digits

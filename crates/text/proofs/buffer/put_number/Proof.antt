@@ -1,8 +1,8 @@
 use Prim.Native.Nat.{_+_, _≤_}
 use native.Mathlib.Omega.{arith}
 use lib.ListN.{length}
-use Rattle.text.specs.Lines.{decimal}
-use Rattle.text.proofs.Writing.{decimal-short}
+use Rattle.lists.specs.Decimals.{decimal}
+use Rattle.lists.proofs.Decimal.{decimal-short}
 use borrow.Author.Needs.{needs}
 use Rattle.text.proofs.buffer.put_number.Statement.{statement}
 use Rattle.text.proofs.buffer.put_number.Tie as tie

@@ -1,0 +1,4 @@
+// Job lists as text.
+pub mod fault;
+pub mod list;
+mod words;
