@@ -62,8 +62,21 @@ fn call(frame: &[u8]) -> Option<(u32, Vec<u8>, Vec<u8>)> {
         match frame[0] {
             READ_JOBS => ruzhtylen_read_jobs(a.as_ptr(), a.len()),
             BOUNDS | MARK => {
-                let entry = if frame[0] == BOUNDS { ruzhtylen_bounds } else { ruzhtylen_mark };
-                entry(a.as_ptr(), a.len(), low, high, b.as_ptr(), b.len(), out.as_mut_ptr(), out.len())
+                let entry = if frame[0] == BOUNDS {
+                    ruzhtylen_bounds
+                } else {
+                    ruzhtylen_mark
+                };
+                entry(
+                    a.as_ptr(),
+                    a.len(),
+                    low,
+                    high,
+                    b.as_ptr(),
+                    b.len(),
+                    out.as_mut_ptr(),
+                    out.len(),
+                )
             }
             PLAN => ruzhtylen_plan(
                 a.as_ptr(),
@@ -75,7 +88,14 @@ fn call(frame: &[u8]) -> Option<(u32, Vec<u8>, Vec<u8>)> {
                 second_out.as_mut_ptr(),
                 second_out.len(),
             ),
-            SAME_BYTES => u32::from(ruzhtylen_same_bytes(a.as_ptr(), a.len(), b.as_ptr(), b.len())) << 8,
+            SAME_BYTES => {
+                u32::from(ruzhtylen_same_bytes(
+                    a.as_ptr(),
+                    a.len(),
+                    b.as_ptr(),
+                    b.len(),
+                )) << 8
+            }
             _ => return None,
         }
     };
@@ -85,7 +105,9 @@ fn call(frame: &[u8]) -> Option<(u32, Vec<u8>, Vec<u8>)> {
 /// Whether a word and two outputs are those of an expected frame.
 fn is_expected(frame: &[u8], word: u32, output: &[u8], second: &[u8]) -> bool {
     let [refusal, first, low, high] = word.to_le_bytes();
-    frame[..4] == [refusal, first, high, low] && frame[4..84] == *output && frame[84..116] == *second
+    frame[..4] == [refusal, first, high, low]
+        && frame[4..84] == *output
+        && frame[84..116] == *second
 }
 
 fn read(path: &str) -> Vec<u8> {
@@ -103,8 +125,14 @@ fn main() {
     };
     let (input, expected) = (read(input), read(expected));
     let (mut run, mut differing) = (0, 0);
-    for (place, (frame, answer)) in input.chunks_exact(FRAME).zip(expected.chunks_exact(FRAME)).enumerate() {
-        let Some((word, output, second)) = call(frame) else { continue };
+    for (place, (frame, answer)) in input
+        .chunks_exact(FRAME)
+        .zip(expected.chunks_exact(FRAME))
+        .enumerate()
+    {
+        let Some((word, output, second)) = call(frame) else {
+            continue;
+        };
         run += 1;
         if !is_expected(answer, word, &output, &second) {
             differing += 1;

@@ -3,7 +3,6 @@ use Prim.Native.Nat.{ℕ}
 use mathlib.Core.Path.{_≡_, refl}
 use mathlib.Core.Bool.{Bool, true, false}
 use mathlib.Core.List.{List, [], _∷_, map}
-use lib.Bits.{bitAnd}
 use lib.Count.{ones, onesIn}
 use Rattle.sets.specs.Places.{every, sum, sumOver, count, listOf}
 use Rattle.sets.specs.Sets.{has, rest, within, size, firstJobs}
@@ -56,5 +55,5 @@ cases =
     ∷ []
 
 pub worked : map (λ c. answered (c .0)) cases ≡ map (λ c. c .1) cases
-unfolding answered k2 k7 cases ones onesIn bitAnd every sum sumOver count listOf has rest within size firstJobs range keep ofSize sizesFrom inOrder order subsets firstTaken considered consideredCount ceilDiv work interference otherQuanta layerShare demand least finish larger run largestResponse bound boundAt firstFrom smallest serves quantaFor settingIn place planFrom start plan
+unfolding answered k2 k7 cases ones onesIn every sum sumOver count listOf has rest within size firstJobs range keep ofSize sizesFrom inOrder order subsets firstTaken considered consideredCount ceilDiv work interference otherQuanta layerShare demand least finish larger run largestResponse bound boundAt firstFrom smallest serves quantaFor settingIn place planFrom start plan
 worked = refl

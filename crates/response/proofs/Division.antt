@@ -10,7 +10,7 @@ unfolding ceilDiv
 ceil-zero x y e = simp (e, div-zero)
 
 div-mono : (x y d : ℕ) → x ≤ y → x / d ≤ y / d
-div-mono x y zero h = rw (div-zero, div-zero) (le-refl 0)
+div-mono x y zero h = simp div-zero (le-refl 0)
 div-mono x y (suc d) h = le-div-iff-mul-le (zero-lt-suc d) .1 (omega (arith, div-mul-le-self x (suc d)))
 
 pub ceil-mono : (x y d : ℕ) → x ≤ y → ceilDiv x d ≤ ceilDiv y d

@@ -37,7 +37,9 @@ returns-2 : tie.Need-returns-2
 returns-2 c =
     let r = c .before .before in
     let a = start r .args in
-    c .largest-response .ensures
+    let of = r .before .capacity-of .result in
+    let found : c .largest-response .result ≡ largestBy (table r) (has (a .above)) (of .spare) (of .carry) (a .quantum) (a .others) (a .job) = c .largest-response .ensures in
+    found
     ∙ ap₂ (λ (spare carry : ℕ). largestBy (table r) (has (a .above)) spare carry (a .quantum) (a .others) (a .job)) (r .before .capacity-of .ensures .0) (r .before .capacity-of .ensures .2)
     ∙ sym (run-runs (table r) (has (a .above)) (a .quantum) (a .others) (a .job) (sym (runs r) ∙ c .before .if1 .left))
 

@@ -13,7 +13,8 @@ returns : tie.Need-returns
 returns c =
     let a = c .before .before .args in
     let all : roomy ≡ min (a .n) roomy = omega arith in
-    c .edit-first .ensures ∙ ap (λ (m : ℕ). editFirst (a .jobs) m (a .place) (a .cost) (a .period) (a .deadline)) all
+    let found : _≡_ {A = _} _ (editFirst (a .jobs) roomy (a .place) (a .cost) (a .period) (a .deadline)) = c .edit-first .ensures in
+    found ∙ ap (λ (m : ℕ). editFirst (a .jobs) m (a .place) (a .cost) (a .period) (a .deadline)) all
 
 edit-first-requires-2 : tie.Need-edit-first-requires-2
 edit-first-requires-2 c κs = search needs
@@ -22,7 +23,8 @@ returns-2 : tie.Need-returns-2
 returns-2 c =
     let a = c .before .before .args in
     let some : a .n ≡ min (a .n) roomy = omega arith in
-    c .edit-first2 .ensures ∙ ap (λ (m : ℕ). editFirst (a .jobs) m (a .place) (a .cost) (a .period) (a .deadline)) some
+    let found : _≡_ {A = _} _ (editFirst (a .jobs) (a .n) (a .place) (a .cost) (a .period) (a .deadline)) = c .edit-first2 .ensures in
+    found ∙ ap (λ (m : ℕ). editFirst (a .jobs) m (a .place) (a .cost) (a .period) (a .deadline)) some
 
 pub edit-held-spec : {M : Type 1} → statement M
 edit-held-spec = tie.close (tie.spec edit-first-requires returns edit-first-requires-2 returns-2)

@@ -59,7 +59,12 @@ returns c =
     v .capacity-of .ensures .2 ∙ carried-same w _ _ (λ i l. short i (omega arith)) in
     let g : (t : ℕ) → ((a .own + interference jobs (has (v .before .before .rest .result)) t) * whole + v .capacity-of .result .carry) / c .before .later .result ≡ estimate w (has (a .above)) longest (a .own) t =
     λ t. ap₂ (λ (x y : ℕ). x / y) (ap₂ (λ (x y : ℕ). (a .own + x) * whole + y) (interference-same jobs _ (longOf jobs (has (a .above)) longest) t (λ i l. long i (omega arith))) carry) spare in
-    (c .climb .ensures .0 ∙ ap₂ (λ (f g : ℕ → ℕ). climb f g (a .limit) (suc (a .limit)) (a .start)) (fun-ext f) (fun-ext g), c .climb .ensures .1, c .climb .ensures .2)
+    let found : c .climb .result
+    ≡ climb (λ t. a .own + interference jobs (has (v .before .before .rest .result)) t + interference jobs (has (v .before .rest2 .result)) t)
+    (λ t. ((a .own + interference jobs (has (v .before .before .rest .result)) t) * whole + v .capacity-of .result .carry) / c .before .later .result) (a .limit)
+    (suc (a .limit)) (a .start) =
+    c .climb .ensures .0 in
+    (found ∙ ap₂ (λ (f g : ℕ → ℕ). climb f g (a .limit) (suc (a .limit)) (a .start)) (fun-ext f) (fun-ext g), c .climb .ensures .1, c .climb .ensures .2)
 
 pub far-time-spec : {M : Type 1} → statement M
 far-time-spec =

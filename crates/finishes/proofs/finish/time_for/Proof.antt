@@ -1,7 +1,7 @@
-use mathlib.Core.Path.{sym, _∙_}
+use mathlib.Core.Path.{_≡_, sym, _∙_}
 use native.Mathlib.Omega.{arith}
 use Rattle.sets.specs.Sets.{has}
-use Rattle.finishes.specs.Finishes.{Table}
+use Rattle.finishes.specs.Finishes.{Table, timeFor}
 use Rattle.finishes.proofs.Climbing.{time-beyond, past-limit, within-limit}
 use Rattle.finishes.proofs.finish.time_for.Statement.{statement}
 use Rattle.finishes.proofs.finish.time_for.Tie as tie
@@ -31,8 +31,9 @@ time-within-requires c κs = (omega (arith, c .if2 .left, c .before .if1 .left),
 returns-3 : tie.Need-returns-3
 returns-3 c =
     let s = c .before .before .before in
-    let a = s .args in (
-      c .time-within .ensures .0 ∙ sym (within-limit (table s) (has (a .above)) (a .spare) (a .carry) (a .own) (a .limit) (a .before) (omega (arith, c .before .before .if1 .left))),
+    let a = s .args in
+    let found : c .time-within .result ≡ timeFor (table s) (has (a .above)) (a .spare) (a .carry) (a .own) (a .limit) (a .before) = c .time-within .ensures .0 in (
+      found ∙ sym (within-limit (table s) (has (a .above)) (a .spare) (a .carry) (a .own) (a .limit) (a .before) (omega (arith, c .before .before .if1 .left))),
       c .time-within .ensures .1,
       c .time-within .ensures .2,
     )

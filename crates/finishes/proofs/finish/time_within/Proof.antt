@@ -143,8 +143,9 @@ returns-5 c =
     let l = c .before .before .loop in
     let a = c .before .before .before .before .before .args in
     let f : ℕ → ℕ = λ x. a .own + interference (a .jobs) (has (a .above)) x in
-    let none : plainSteps - l .step ≡ 0 = omega (arith, c .before .loop-test .left) in (
-      c .far-time .ensures .0
+    let none : plainSteps - l .step ≡ 0 = omega (arith, c .before .loop-test .left) in
+    let found : c .far-time .result ≡ farTime (table (a .jobs) (a .utilisations)) (has (a .above)) (a .own) (a .limit) (l .t) = c .far-time .ensures .0 in (
+      found
           ∙ sym (l .inv .1 ∙ ap (farTime (table (a .jobs) (a .utilisations)) (has (a .above)) (a .own) (a .limit)) (ap (λ (n : ℕ). steps f (a .limit) n (l .t)) none ∙ steps-none f (a .limit) (l .t))),
       c .far-time .ensures .1,
       λ e. omega (arith, l .inv .2, c .far-time .ensures .2 e),

@@ -1,5 +1,5 @@
 use Prim.Native.Nat.{ℕ}
-use mathlib.Core.Path.{sym, _∙_, ap, ap₂}
+use mathlib.Core.Path.{_≡_, sym, _∙_, ap, ap₂}
 use lib.Dec.{ltb}
 use borrow.Author.Tests.{not-true, not-false}
 use Rattle.sets.specs.Places.{listOf}
@@ -45,8 +45,9 @@ unfolding listOf
 returns-3 c =
     let p = c .before .before .before .before .before .before .before in
     let a = p .before .args in
+    let found : c .bound .result ≡ boundBy (a .t1) noQuanta (has (c .before .before .single .result)) (has (c .before .remove .result)) (a .job) = c .bound .ensures in
     ap (ltb 0)
-    (c .bound .ensures
+    (found
     ∙ ap₂ (λ (x y : ℕ). boundBy (a .t1) noQuanta (has x) (has y) (a .job)) (c .before .before .single .ensures) (c .before .remove .ensures))
     ∙ sym (drops-by (a .t1) (a .set) (a .job) (sym (p .contains .ensures) ∙ not-false (p .contains .result) (c .before .before .before .before .before .before .if1 .left)) (c .before .before .before .if2 .left))
 

@@ -95,7 +95,8 @@ module _ (t : ℕ) (c : bound-lts.After-first-decides (claims t) (bound-at t) bo
   first =
       let a = start .args in
       let run : ℕ → ℕ = λ others. runBound (inTable (a .t1)) (has (a .above)) (getD (a .t2) (a .job) 0) others (jobAt (a .t1 .jobs) (a .job)) in
-      c .before .run-bound .ensures
+      let found : c .before .run-bound .result ≡ run (c .before .before .before .before .other-quanta .result) = c .before .run-bound .ensures in
+      found
       ∙ ap run (c .before .before .before .before .other-quanta .ensures ∙ ap (λ (n : ℕ). otherQuanta n (a .t2) (has (a .layer)) (a .job)) (sym (size t start)))
 
   decides : c .first-decides .result ≡ firstDecides (length (start .args .t1 .jobs)) (start .args .t1 .unassignable) (has (start .args .layer)) (has (start .args .above)) (start .args .job)
@@ -133,9 +134,11 @@ bound-returns-3 t c =
     let d = j .before .before .before in
     let s = start t d in
     let a = s .args in
-    c .lesser .ensures
+    let second : c .before .bound .result ≡ boundBy (a .t1) (a .t2) (has (c .before .before .single .result)) (has (j .join .result)) (a .job) = c .before .bound .ensures in
+    let found : c .lesser .result ≡ lesser (d .before .run-bound .result) (c .before .bound .result) = c .lesser .ensures in
+    found
     ∙ ap₂ lesser (first t d)
-    (c .before .bound .ensures
+    (second
     ∙ ap₂ (λ (x y : Set). boundBy (a .t1) (a .t2) x y (a .job)) (ap has (c .before .before .single .ensures) ∙ only-set (a .job) (place t d))
     (ap has (j .join .ensures ∙ ap (join (a .above)) (j .before .remove .ensures)) ∙ with-set (a .layer) (a .above) (a .job) (place t d)))
     ∙ sym (by-both (a .t1) (a .t2) (has (a .layer)) (has (a .above)) (a .job) (sym (decides t d) ∙ j .before .before .if2 .left))
