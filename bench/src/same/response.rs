@@ -19,7 +19,7 @@ pub type Quanta = [u8; MOST_JOBS];
 #[derive(Clone, Copy)]
 pub struct Load {
     /// What the set leaves of the processor.
-    left: u64,
+    spare: u64,
     /// What the delays of its jobs add to their work, in as many parts of a tick.
     carried: u64,
 }
@@ -27,14 +27,14 @@ pub struct Load {
 impl Load {
     /// The load of no jobs.
     pub const NONE: Load = Load {
-        left: WHOLE,
+        spare: WHOLE,
         carried: 0,
     };
 
     /// A time that no finish is below where so much demand is beside the set: each job of the set
     /// takes at least its utilisation of the time and of its delay.
     fn earliest(&self, demand: u64) -> u64 {
-        (demand * WHOLE + self.carried) / self.left
+        (demand * WHOLE + self.carried) / self.spare
     }
 }
 
@@ -53,7 +53,7 @@ pub trait Iteration {
     fn start(&self, own: u64, load: Load, before: u32) -> Option<u64>;
 
     /// Whether no instance finishes by its next release because the layer asks for more than is
-    /// left.
+    /// spare.
     fn runs_on(&self, job: &Job, quantum: u32, others: u32, load: Load) -> bool;
 
     /// Is told of each evaluation of an interference, with the set.
@@ -73,7 +73,7 @@ impl Iteration for Shortcuts {
     }
 
     fn start(&self, own: u64, load: Load, before: u32) -> Option<u64> {
-        if load.left == 0 {
+        if load.spare == 0 {
             return None;
         }
         Some(load.earliest(own).max(u64::from(before)))
@@ -83,7 +83,7 @@ impl Iteration for Shortcuts {
         if quantum == 0 {
             return false;
         }
-        let held = u64::from(job.period) * u64::from(quantum) * load.left;
+        let held = u64::from(job.period) * u64::from(quantum) * load.spare;
         held < u64::from(job.cost) * u64::from(quantum + others) * WHOLE
     }
 }
@@ -91,33 +91,33 @@ impl Iteration for Shortcuts {
 /// Jobs with the utilisation of each, and the iteration that finds their bounds.
 pub struct Workload<I> {
     jobs: [Job; MOST_JOBS],
-    shares: [u32; MOST_JOBS],
+    utilisations: [u32; MOST_JOBS],
     /// Jobs of which none is served alone below the others: such a job needs no second bound where
     /// the others are above it or beside it.
-    blocked: u8,
+    unassignable: u8,
     iteration: I,
 }
 
 impl<I: Iteration> Workload<I> {
-    /// No job is known to be blocked.
+    /// No job is known to be unassignable.
     pub fn plain(jobs: [Job; MOST_JOBS], iteration: I) -> Workload<I> {
         Workload {
             jobs,
-            shares: jobs.map(|job| utilisation(&job)),
-            blocked: 0,
+            utilisations: jobs.map(|job| utilisation(&job)),
+            unassignable: 0,
             iteration,
         }
     }
 
-    /// With the jobs that are blocked, for callers that ask for the bounds of many sets.
+    /// With the unassignable jobs, for callers that ask for the bounds of many sets.
     pub fn new(jobs: [Job; MOST_JOBS], iteration: I) -> Workload<I> {
         let mut workload = Workload::plain(jobs, iteration);
-        workload.blocked = workload.blocked_jobs();
+        workload.unassignable = workload.unassignable_jobs();
         workload
     }
 
     /// The jobs that are left when no more are dropped.
-    fn blocked_jobs(&self) -> u8 {
+    fn unassignable_jobs(&self) -> u8 {
         let mut set = u8::MAX;
         loop {
             let kept = self.drop_served(set);
@@ -153,15 +153,15 @@ impl<I: Iteration> Workload<I> {
         let alone = 1 << place;
         let neighbours = layer & !alone;
         let all = above | neighbours;
-        if neighbours == 0 || self.is_blocked(place, all) {
+        if neighbours == 0 || self.is_unassignable(place, all) {
             return first;
         }
         lesser(first, self.bound(quanta, alone, all, place))
     }
 
-    /// Whether a job is one of the blocked ones and the others of them lie within a set.
-    fn is_blocked(&self, place: usize, set: u8) -> bool {
-        contains(self.blocked, place) && self.blocked & !(1 << place) & !set == 0
+    /// Whether a job is one of the unassignable ones and the others of them lie within a set.
+    fn is_unassignable(&self, place: usize, set: u8) -> bool {
+        contains(self.unassignable, place) && self.unassignable & !(1 << place) & !set == 0
     }
 
     /// One of the two bounds: the largest response beside a sum of other quanta and below a set.
@@ -226,7 +226,7 @@ impl<I: Iteration> Workload<I> {
         let long = above & !self.short_jobs(start / SHORT_PART);
         let short = above & !long;
         let mut load = self.load(short);
-        load.left = load.left.max(1);
+        load.spare = load.spare.max(1);
         let mut time = start;
         while time <= u64::from(limit) {
             let part = own + self.interference(long, time as u32);
@@ -253,14 +253,14 @@ impl<I: Iteration> Workload<I> {
     /// The load of a set of jobs.
     fn load(&self, set: u8) -> Load {
         let (mut taken, mut carried) = (0, 0);
-        for (place, share) in self.shares.iter().enumerate() {
+        for (place, parts) in self.utilisations.iter().enumerate() {
             if contains(set, place) {
-                taken += u64::from(*share);
-                carried += u64::from(self.jobs[place].delay) * u64::from(*share);
+                taken += u64::from(*parts);
+                carried += u64::from(self.jobs[place].delay) * u64::from(*parts);
             }
         }
         Load {
-            left: WHOLE.saturating_sub(taken),
+            spare: WHOLE.saturating_sub(taken),
             carried,
         }
     }
