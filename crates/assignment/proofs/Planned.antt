@@ -26,10 +26,10 @@ use Rattle.records.specs.Jobs.{jobAt}
 use Rattle.records.specs.declared.job.Job.{Job}
 use Rattle.configuration.specs.declared.setting.Setting.{Setting}
 use Rattle.configuration.specs.Settings.{blankSetting, settingAt, levelAt}
-use Rattle.configuration.specs.Configuration.{Configuration}
+use Rattle.configuration.specs.Configuration.{Configuration, isPlaced, full}
 use Rattle.configuration.specs.Shape.{Shape, unplaced, alone, shared, Shapes}
 use Rattle.configuration.proofs.Shapes.{shapes, configuration}
-use Rattle.marker.specs.Bounds.{quantaOf, layerOf, boundAt, boundsOf, isPlaced, isServed, full, passes}
+use Rattle.marker.specs.Bounds.{quantaOf, layerOf, boundAt, boundsOf, isServed, passes}
 use Rattle.marker.proofs.Configured.{bound-unplaced, bound-placed, quantum-at}
 use Rattle.assignment.specs.Takeable.{Permitted, Served, TakeableBy}
 use Rattle.assignment.specs.Plan.{isFound, quantaIn, Stage, settingLeft, place, planFrom, start, Plan, planBy, quantaFor, plan}

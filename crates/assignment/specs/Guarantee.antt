@@ -8,8 +8,8 @@ use lib.ListN.{length}
 use Rattle.sets.specs.Sets.{Set, has}
 use Rattle.records.specs.declared.job.Job.{Job}
 use Rattle.configuration.specs.declared.setting.Setting.{Setting}
-use Rattle.configuration.specs.Configuration.{Configuration}
-use Rattle.marker.specs.Bounds.{boundAt, boundsOf, isPlaced, full, passes}
+use Rattle.configuration.specs.Configuration.{Configuration, isPlaced, full}
+use Rattle.marker.specs.Bounds.{boundAt, boundsOf, passes}
 use Rattle.assignment.specs.Plan.{Plan}
 use Rattle.assignment.specs.Takeable.{TakeableBy, Permitted}
 

@@ -1,22 +1,22 @@
 // The entries for callers in C and Rust: a slice is a pointer and a length, an answer is a word.
 ghost use mathlib.Core.Path.{_≡_};
-ghost use Prim.Native.Nat.{_<_};
+ghost use Rattle.records.specs.Refusals.{verdict};
 ghost use Rattle.records.specs.Jobs.{readJobs};
 ghost use Rattle.same_bytes.specs.Same.{sameBytes};
-ghost use Rattle.marker.specs.Marks.{boundsAnswer, boundsOutcome, markAnswer, markOutcome};
+ghost use Rattle.marker.specs.Marks.{boundsOutcome, markAnswer, markOutcome};
 ghost use Rattle.planner.specs.Plans.{planAnswer, planOutcome};
 ghost use Rattle.capi.specs.Words.{word, inWords, countValue, noValue, truthValue, planValue};
-use marker::BoundsAnswer;
 use marker::MarkAnswer;
 use planner::PlanAnswer;
-use records::block::JobsAnswer;
+use records::refusal::Counted;
+use records::refusal::Verdict;
 
-fn bounds_word(answer: BoundsAnswer) -> u32
-    ensures { λ r. ⌜ r ≡ word noValue (boundsAnswer answer) ⌝ }
+fn verdict_word(answer: Verdict) -> u32
+    ensures { λ r. ⌜ r ≡ word noValue (verdict answer) ⌝ }
 {
     match answer {
-        BoundsAnswer::Done => 0,
-        BoundsAnswer::Refused(refusal) => refusal.number() as u32,
+        Verdict::Accepted => 0,
+        Verdict::Refused(refusal) => refusal.number() as u32,
     }
 }
 
@@ -49,8 +49,8 @@ pub extern "C" fn ruzhtylen_read_jobs(jobs: &[u8]) -> u32
     let read = records::block::read_jobs(jobs);
     let answer = read.answer;
     match answer {
-        JobsAnswer::Count(n) => 256 * n as u32,
-        JobsAnswer::Refused(refusal) => refusal.number() as u32,
+        Counted::Count(n) => 256 * n as u32,
+        Counted::Refused(refusal) => refusal.number() as u32,
     }
 }
 
@@ -64,7 +64,7 @@ pub extern "C" fn ruzhtylen_bounds(
 ) -> u32
     ensures { λ r. ⌜ (r, now (bounds .exit)) ≡ inWords noValue (boundsOutcome (now (jobs .entry)) low high (now (configuration .entry)) (now (bounds .entry))) ⌝ }
 {
-    bounds_word(marker::bounds(jobs, low, high, configuration, &mut *bounds))
+    verdict_word(marker::bounds(jobs, low, high, configuration, &mut *bounds))
 }
 
 // Byte 1: 1 passes, 0 fails.

@@ -1,7 +1,7 @@
 pub mod SettingRecords
 pub mod SettingTests
 pub mod Policies
-pub mod Readers
+pub mod HandIns
 pub mod Shapes
 pub mod RoundTrip
 pub mod Edges

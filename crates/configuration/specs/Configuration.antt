@@ -1,8 +1,9 @@
--- What a configuration of a list of jobs and a range is: what refusals 7 to 10 let by (01). Assumes nothing.
+-- What a configuration of a list of jobs and a range is: what refusals 7 to 10 let by; and whether it is full, refusal 11 (01). Assumes
+-- nothing.
 use Prim.Native.Nat.{ℕ}
 use mathlib.Core.List.{List, [], _∷_}
 use mathlib.Core.Bool.{Bool, not, _&&_, _||_}
-use lib.Dec.{leb, eqb}
+use lib.Dec.{leb, ltb, eqb}
 use lib.ListN.{length}
 use Rattle.sets.specs.Places.{every, count}
 use Rattle.records.specs.Refusals.{Tests, Accepts}
@@ -10,7 +11,7 @@ use Rattle.records.specs.Jobs.{jobAt}
 use Rattle.records.specs.declared.job.Job.{Job}
 use Rattle.configuration.specs.declared.setting.Setting.{Setting}
 use Rattle.configuration.specs.declared.judge.SettingRule.{SettingRule}
-use Rattle.configuration.specs.declared.judge.SettingRule.the-variants.{Id, Shape, Sharing}
+use Rattle.configuration.specs.declared.judge.SettingRule.the-variants.{Id, Shape, Sharing, Placed}
 use Rattle.configuration.specs.Settings.{notPlaced, fifo, roundRobin, settingAt, levelAt}
 
 -- ---- refusal 9: the three shapes
@@ -50,26 +51,41 @@ levelled n settings setting =
     (not (eqb (setting .policy) fifo) || eqb (sharing n settings (setting .level)) 1)
     && (not (eqb (setting .policy) roundRobin) || leb 2 (sharing n settings (setting .level)))
 
--- ---- refusals 7 to 10
+-- ---- refusal 11: who is placed
+
+abbrev pub isPlaced : List Setting → ℕ → Bool
+isPlaced settings i = ltb notPlaced (settingAt settings i .policy)
+
+-- "A configuration is full if each job is placed."
+abbrev pub full : List Job → List Setting → Bool
+full jobs settings = every (isPlaced settings) (length jobs)
+
+-- ---- refusals 7 to 11
 
 -- What a rule asks of the setting at place i; refusal 8: the ids are the jobs' ids in order.
 abbrev pub settingOk : SettingRule → ℕ → List Job → ℕ → ℕ → List Setting → ℕ → Bool
 settingOk Id n jobs low high settings i = eqb (settingAt settings i .id) (jobAt jobs i .id)
 settingOk Shape n jobs low high settings i = shaped n low high (settingAt settings i)
 settingOk Sharing n jobs low high settings i = levelled n settings (settingAt settings i)
+settingOk Placed n jobs low high settings i = isPlaced settings i
 
--- Refusals 8, 9 and 10 of the settings of n jobs.
-abbrev pub settingTests : ℕ → List Job → ℕ → ℕ → List Setting → Tests
-settingTests n jobs low high settings =
-    (every (settingOk Id n jobs low high settings) n, 8)
-    ∷ (every (settingOk Shape n jobs low high settings) n, 9)
-    ∷ (every (settingOk Sharing n jobs low high settings) n, 10)
-    ∷ []
+-- The rule holds of the setting of each job of a list.
+abbrev pub allOk : SettingRule → List Job → ℕ → ℕ → List Setting → Bool
+allOk rule jobs low high settings = every (settingOk rule (length jobs) jobs low high settings) (length jobs)
+
+-- Refusals 8, 9 and 10 of settings for a list of jobs.
+abbrev pub settingTests : List Job → ℕ → ℕ → List Setting → Tests
+settingTests jobs low high settings =
+    (allOk Id jobs low high settings, 8) ∷ (allOk Shape jobs low high settings, 9) ∷ (allOk Sharing jobs low high settings, 10) ∷ []
 
 -- Refusals 7 to 10 of a list of settings for a list of jobs.
 abbrev pub configurationTests : List Job → ℕ → ℕ → List Setting → Tests
-configurationTests jobs low high settings = (eqb (length settings) (length jobs), 7) ∷ settingTests (length jobs) jobs low high settings
+configurationTests jobs low high settings = (eqb (length settings) (length jobs), 7) ∷ settingTests jobs low high settings
 
 -- "A configuration of a list is any that refusals 7 to 10 let by for that list and range."
 abbrev pub Configuration : List Job → ℕ → ℕ → List Setting → Type 0
 Configuration jobs low high settings = Accepts (configurationTests jobs low high settings)
+
+-- Refusal 11 of a configuration.
+abbrev pub fullTests : List Job → List Setting → Tests
+fullTests jobs settings = (full jobs settings, 11) ∷ []

@@ -1,118 +1,119 @@
 // Reads and writes configuration blocks.
 ghost use mathlib.Core.Path.{_≡_};
 ghost use mathlib.Core.List.{[]};
-ghost use Prim.Native.Nat.{_≤_};
+ghost use Prim.Native.Nat.{_/_, min};
+ghost use lib.ListN.{length, take};
 ghost use Rattle.records.specs.Limits.{mostJobs};
-ghost use Rattle.records.specs.Refusals.{turned};
-ghost use Rattle.records.specs.Jobs.{wroteAnswer};
-ghost use Rattle.configuration.specs.Settings.{settingTable};
-ghost use Rattle.configuration.specs.Blocks.{configurationOutcome, readRecords, readSettings, readConfiguration, writeSettings, writeConfiguration};
+ghost use Rattle.records.specs.Refusals.{turned, counted};
+ghost use Rattle.records.specs.Records.{writeRecords};
+ghost use Rattle.configuration.specs.Settings.{settingSize, settingBytes, settingsIn, settingTable};
+ghost use Rattle.configuration.specs.Blocks.{configurationOutcome, readSettings, readFull, readConfiguration, writeConfiguration};
 use crate::bytes;
 use crate::judge;
+use crate::judge::SettingRule;
 use crate::setting::Setting;
-use records::block::JobsAnswer;
-use records::block::Wrote;
 use records::job::Job;
-use records::range::NewRange;
 use records::range::Range;
+use records::refusal::Counted;
 use records::refusal::Refusal;
 use records::refusal::Verdict;
 
-// What reading a configuration block answers: the number of records.
-pub enum ConfigurationAnswer {
-    Count(usize),
-    Refused(Refusal),
-}
-
-// The answer, with the table beside it; the table is blank past the records, and whole where the block is refused.
+// The number of records, with the table beside it; the table is blank past the records, and whole where the block is refused.
 pub struct ConfigurationRead {
-    pub answer: ConfigurationAnswer,
-    pub table: [Setting; Job::MOST],
+    pub answer: Counted,
+    pub settings: [Setting; Job::MOST],
 }
 
 fn configuration_refused(refusal: Refusal) -> ConfigurationRead
     ensures { λ r. ⌜ configurationOutcome r ≡ turned refusal (settingTable []) ⌝ }
 {
     ConfigurationRead {
-        answer: ConfigurationAnswer::Refused(refusal),
-        table: [Setting::BLANK; Job::MOST],
+        answer: Counted::Refused(refusal),
+        settings: [Setting::BLANK; Job::MOST],
     }
 }
 
-// Reads a configuration block for a table of n jobs and a range: refusals 7 to 10.
-fn read_records(jobs: [Job; Job::MOST], n: usize, range: Range, block: &[u8]) -> ConfigurationRead
-    requires { ⌜ n ≤ mostJobs ⌝ }
-    ensures { λ r. ⌜ configurationOutcome r ≡ readRecords n jobs (range .low) (range .high) (now (block .entry)) ⌝ }
+// Reads a configuration block for the first n jobs of a table and a range: refusals 7 to 10.
+pub fn read_settings(
+    table: [Job; Job::MOST],
+    n: usize,
+    range: Range,
+    configuration: &[u8],
+) -> ConfigurationRead
+    ensures { λ r. ⌜ configurationOutcome r ≡ readSettings (take n table) (range .low) (range .high) (now (configuration .entry)) ⌝ }
 {
-    if block.len() != Setting::SIZE * n {
+    let count = Job::at_most(n);
+    if configuration.len() != Setting::SIZE * count {
         return configuration_refused(Refusal::ConfigurationSize);
     }
-    let table = bytes::decode(block, n);
-    let judged = judge::judge_settings(jobs, table, n, range);
-    if let Verdict::Turned(refusal) = judged {
+    let settings = bytes::decode(configuration, count);
+    let judged = judge::judge_settings(table, settings, count, range);
+    if let Verdict::Refused(refusal) = judged {
         return configuration_refused(refusal);
     }
     ConfigurationRead {
-        answer: ConfigurationAnswer::Count(n),
-        table,
+        answer: Counted::Count(count),
+        settings,
     }
 }
 
-// Reads a configuration block for a table of n jobs, which are not judged: refusals 1 (on n) and 6 to 10.
-pub fn read_settings(
-    jobs: [Job; Job::MOST],
+// The same for a configuration that is to be full: refusals 7 to 11.
+pub fn read_full(
+    table: [Job; Job::MOST],
     n: usize,
-    low: u8,
-    high: u8,
-    block: &[u8],
+    range: Range,
+    configuration: &[u8],
 ) -> ConfigurationRead
-    ensures { λ r. ⌜ configurationOutcome r ≡ readSettings n jobs low high (now (block .entry)) ⌝ }
+    ensures { λ r. ⌜ configurationOutcome r ≡ readFull (take n table) (range .low) (range .high) (now (configuration .entry)) ⌝ }
 {
-    if n < 1 {
-        return configuration_refused(Refusal::JobCount);
-    }
-    if Job::MOST < n {
-        return configuration_refused(Refusal::JobCount);
-    }
-    let made = Range::new(low, high);
-    let NewRange::Made(range) = made else {
-        return configuration_refused(Refusal::QuantumRange);
+    let read = read_settings(table, n, range, configuration);
+    let answer = read.answer;
+    let Counted::Count(_) = answer else {
+        return read;
     };
-    read_records(jobs, n, range, block)
+    let settings = read.settings;
+    if !judge::all_ok(SettingRule::Placed, table, settings, n, range) {
+        return configuration_refused(Refusal::NotPlaced);
+    }
+    read
 }
 
 // Reads a configuration block for a job block and a range.
-pub fn read_configuration(jobs: &[u8], low: u8, high: u8, block: &[u8]) -> ConfigurationRead
-    ensures { λ r. ⌜ configurationOutcome r ≡ readConfiguration (now (jobs .entry)) low high (now (block .entry)) ⌝ }
+pub fn read_configuration(jobs: &[u8], low: u8, high: u8, configuration: &[u8]) -> ConfigurationRead
+    ensures { λ r. ⌜ configurationOutcome r ≡ readConfiguration (now (jobs .entry)) low high (now (configuration .entry)) ⌝ }
 {
-    let read = records::block::read_jobs(jobs);
-    let answer = read.answer;
-    let JobsAnswer::Count(n) = answer else {
-        return configuration_refused(records::block::refusal_of(answer));
+    let call = records::call::read_call(jobs, low, high);
+    let answer = call.answer;
+    let Counted::Count(n) = answer else {
+        return configuration_refused(records::refusal::refusal_of(answer));
     };
-    let table = read.table;
-    read_settings(table, n, low, high, block)
+    let table = call.table;
+    let range = call.range;
+    read_settings(table, n, range, configuration)
 }
 
-// Writes the first n settings of a table, which are not judged: refusals 1 (on n) and 12.
-pub fn write_settings(settings: [Setting; Job::MOST], n: usize, output: &mut [u8]) -> Wrote
-    ensures { λ r. ⌜ (wroteAnswer r, now (output .exit)) ≡ writeSettings n settings (now (output .entry)) ⌝ }
+// The settings of a block, which are not judged: its whole records, as far as a table has entries; blank past them.
+pub fn read_unjudged(configuration: &[u8]) -> [Setting; Job::MOST]
+    ensures { λ r. ⌜ r ≡ settingTable (settingsIn (min (length (now (configuration .entry)) / settingSize) mostJobs) (now (configuration .entry))) ⌝ }
 {
-    if n < 1 {
-        return Wrote::NotWritten(Refusal::JobCount);
-    }
-    if Job::MOST < n {
-        return Wrote::NotWritten(Refusal::JobCount);
-    }
-    let size = Setting::SIZE * n;
-    if output.len() < size {
-        return Wrote::NotWritten(Refusal::OutputLength);
-    }
-    bytes::encode(settings, n, &mut *output);
-    Wrote::Bytes(size)
+    let count = Job::at_most(configuration.len() / Setting::SIZE);
+    bytes::decode(configuration, count)
 }
 
-// Writes a table of settings as a configuration block for a job block and a range.
+// Writes the first n settings of a table, which are not judged: refusal 12.
+pub fn write_settings(settings: [Setting; Job::MOST], n: usize, output: &mut [u8]) -> Counted
+    ensures { λ r. ⌜ (counted r, now (output .exit)) ≡ writeRecords settingSize settingBytes (take n settings) (now (output .entry)) ⌝ }
+{
+    let count = Job::at_most(n);
+    let size = Setting::SIZE * count;
+    if output.len() < size {
+        return Counted::Refused(Refusal::OutputLength);
+    }
+    bytes::encode(settings, count, &mut *output);
+    Counted::Count(size)
+}
+
+// Writes the first `count` settings of a table as a configuration block for a job block and a range.
 pub fn write_configuration(
     jobs: &[u8],
     low: u8,
@@ -120,18 +121,22 @@ pub fn write_configuration(
     settings: [Setting; Job::MOST],
     count: usize,
     output: &mut [u8],
-) -> Wrote
-    ensures { λ r. ⌜ (wroteAnswer r, now (output .exit)) ≡ writeConfiguration (now (jobs .entry)) low high count settings (now (output .entry)) ⌝ }
+) -> Counted
+    ensures { λ r. ⌜ (counted r, now (output .exit)) ≡ writeConfiguration (now (jobs .entry)) low high count settings (now (output .entry)) ⌝ }
 {
-    let read = records::block::read_jobs(jobs);
-    let answer = read.answer;
-    let JobsAnswer::Count(n) = answer else {
-        return Wrote::NotWritten(records::block::refusal_of(answer));
+    let call = records::call::read_call(jobs, low, high);
+    let answer = call.answer;
+    let Counted::Count(n) = answer else {
+        return Counted::Refused(records::refusal::refusal_of(answer));
     };
-    let table = read.table;
-    let judged = judge::judge_table(table, n, low, high, settings, count);
-    if let Verdict::Turned(refusal) = judged {
-        return Wrote::NotWritten(refusal);
+    if count != n {
+        return Counted::Refused(Refusal::ConfigurationSize);
+    }
+    let table = call.table;
+    let range = call.range;
+    let judged = judge::judge_settings(table, settings, n, range);
+    if let Verdict::Refused(refusal) = judged {
+        return Counted::Refused(refusal);
     }
     write_settings(settings, n, &mut *output)
 }

@@ -2,10 +2,10 @@
 ghost use mathlib.Core.Path.{_≡_};
 ghost use mathlib.Core.List.{_++_};
 ghost use Prim.Native.Nat.{_*_, _≤_};
-ghost use lib.ListN.{length, drop};
+ghost use lib.ListN.{length, take, drop};
 ghost use Rattle.records.specs.Limits.{mostJobs};
+ghost use Rattle.records.specs.Records.{written};
 ghost use Rattle.configuration.specs.Settings.{settingSize, settingOf, settingBytes, settingsIn, settingTable};
-ghost use Rattle.configuration.specs.Blocks.{settingsWritten};
 use crate::setting::Setting;
 use records::job::Job;
 
@@ -50,7 +50,7 @@ fn put_setting(output: &mut [u8], setting: Setting)
 // Writes the first n settings of a table.
 pub(crate) fn encode(table: [Setting; Job::MOST], n: usize, output: &mut [u8])
     requires { ⌜ (n ≤ mostJobs) × (settingSize * n ≤ length (now output)) ⌝ }
-    ensures { λ _. ⌜ now (output .exit) ≡ settingsWritten n table (now (output .entry)) ⌝ }
+    ensures { λ _. ⌜ now (output .exit) ≡ written settingSize settingBytes (take n table) (now (output .entry)) ⌝ }
 {
     let mut i = 0;
     while i < n {

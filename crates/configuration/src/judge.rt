@@ -1,14 +1,12 @@
-// Refusals 7 to 10 of settings.
+// Refusals 8 to 11 of settings.
 ghost use mathlib.Core.Path.{_≡_};
 ghost use Prim.Native.Nat.{_≤_, _<_};
-ghost use Rattle.sets.specs.Places.{every};
+ghost use lib.ListN.{take};
 ghost use Rattle.records.specs.Limits.{mostJobs};
 ghost use Rattle.records.specs.Refusals.{answer, verdict};
-ghost use Rattle.configuration.specs.Configuration.{placedLevel, shaped, sharing, levelled, settingOk, settingTests};
-ghost use Rattle.configuration.specs.Blocks.{tableTests};
+ghost use Rattle.configuration.specs.Configuration.{placedLevel, shaped, sharing, levelled, settingOk, allOk, settingTests};
 use crate::setting::Setting;
 use records::job::Job;
-use records::range::NewRange;
 use records::range::Range;
 use records::refusal::Refusal;
 use records::refusal::Verdict;
@@ -80,11 +78,12 @@ fn is_levelled(settings: [Setting; Job::MOST], n: usize, setting: Setting) -> bo
     true
 }
 
-// What a setting is held to: refusals 8, 9 and 10.
+// What a setting is held to: refusals 8, 9, 10 and 11.
 pub enum SettingRule {
     Id,
     Shape,
     Sharing,
+    Placed,
 }
 
 // Whether the rule holds of the setting at place i.
@@ -107,23 +106,24 @@ fn setting_ok(
         }
         SettingRule::Shape => has_shape(n, range, setting),
         SettingRule::Sharing => is_levelled(settings, n, setting),
+        SettingRule::Placed => Setting::NOT_PLACED < setting.policy,
     }
 }
 
 // Whether the rule holds of each of the first n settings.
-fn all_ok(
+pub fn all_ok(
     rule: SettingRule,
     jobs: [Job; Job::MOST],
     settings: [Setting; Job::MOST],
     n: usize,
     range: Range,
 ) -> bool
-    requires { ⌜ n ≤ mostJobs ⌝ }
-    ensures { λ r. ⌜ r ≡ every (settingOk rule n jobs (range .low) (range .high) settings) n ⌝ }
+    ensures { λ r. ⌜ r ≡ allOk rule (take n jobs) (range .low) (range .high) (take n settings) ⌝ }
 {
+    let count = Job::at_most(n);
     let mut i = 0;
-    while i < n {
-        if !setting_ok(rule, jobs, settings, n, range, i) {
+    while i < count {
+        if !setting_ok(rule, jobs, settings, count, range, i) {
             return false;
         }
         i += 1;
@@ -138,39 +138,16 @@ pub(crate) fn judge_settings(
     n: usize,
     range: Range,
 ) -> Verdict
-    requires { ⌜ n ≤ mostJobs ⌝ }
-    ensures { λ r. ⌜ verdict r ≡ answer (settingTests n jobs (range .low) (range .high) settings) tt ⌝ }
+    ensures { λ r. ⌜ verdict r ≡ answer (settingTests (take n jobs) (range .low) (range .high) (take n settings)) tt ⌝ }
 {
     if !all_ok(SettingRule::Id, jobs, settings, n, range) {
-        return Verdict::Turned(Refusal::ConfigurationIds);
+        return Verdict::Refused(Refusal::ConfigurationIds);
     }
     if !all_ok(SettingRule::Shape, jobs, settings, n, range) {
-        return Verdict::Turned(Refusal::RecordShape);
+        return Verdict::Refused(Refusal::RecordShape);
     }
     if !all_ok(SettingRule::Sharing, jobs, settings, n, range) {
-        return Verdict::Turned(Refusal::LevelSharing);
+        return Verdict::Refused(Refusal::LevelSharing);
     }
     Verdict::Accepted
-}
-
-// Judges a range and a table of `count` settings for n jobs: refusals 6 to 10.
-pub(crate) fn judge_table(
-    jobs: [Job; Job::MOST],
-    n: usize,
-    low: u8,
-    high: u8,
-    settings: [Setting; Job::MOST],
-    count: usize,
-) -> Verdict
-    requires { ⌜ n ≤ mostJobs ⌝ }
-    ensures { λ r. ⌜ verdict r ≡ answer (tableTests n jobs low high count settings) tt ⌝ }
-{
-    let made = Range::new(low, high);
-    let NewRange::Made(range) = made else {
-        return Verdict::Turned(Refusal::QuantumRange);
-    };
-    if count != n {
-        return Verdict::Turned(Refusal::ConfigurationSize);
-    }
-    judge_settings(jobs, settings, n, range)
 }

@@ -1,13 +1,13 @@
 -- What the answer to an edit says of the place, and of the table that is left. Assumes nothing.
 use Prim.Native.Nat.{ℕ, _≤_, _<_}
-use mathlib.Core.Path.{_≡_, sym, ap, _∙_}
-use mathlib.Core.List.{List, [], append-nil}
+use mathlib.Core.Path.{_≡_}
+use mathlib.Core.List.{List}
 use lib.ListN.{length}
 use borrow.Author.Tests.{leb-true, ltb-true}
 use Rattle.records.specs.Limits.{mostJobs}
-use Rattle.records.specs.Refusals.{given, refused, Tests, outcome}
+use Rattle.records.specs.Refusals.{given, refused, Tests}
 use Rattle.records.specs.declared.job.Job.{Job}
-use Rattle.records.proofs.Outcomes.{stops, accepted, accepts}
+use Rattle.records.proofs.Outcomes.{accepted, refuses-alike, gives-alike}
 use Rattle.desk.specs.Edits.{editTests, judged, edited, editOutcome}
 
 -- The table has at most eight jobs, and the place is one of them.
@@ -27,10 +27,8 @@ module _ (jobs : List Job) (place cost period deadline : ℕ) where
 
   pub edit-done : judged (length jobs) place cost period deadline ≡ given tt → editOutcome jobs place cost period deadline ≡ (given tt, edited jobs place cost period deadline)
   unfolding editOutcome
-  edit-done e = accepts tt (edited jobs place cost period deadline) jobs tests (accepted tt tt tt tests tt e)
+  edit-done e = gives-alike tests tt tt tt tt (edited jobs place cost period deadline) jobs tt e
 
   pub edit-refused : (k : ℕ) → judged (length jobs) place cost period deadline ≡ refused k → editOutcome jobs place cost period deadline ≡ (refused k, jobs)
   unfolding editOutcome
-  edit-refused k e =
-      ap (λ (t : Tests). outcome t tt (edited jobs place cost period deadline) jobs) (sym (append-nil tests))
-      ∙ stops tt tt tt tt (edited jobs place cost period deadline) jobs [] tests k e
+  edit-refused k e = refuses-alike tests tt tt tt tt (edited jobs place cost period deadline) jobs k e

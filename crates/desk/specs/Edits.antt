@@ -3,17 +3,10 @@ use Prim.Native.Nat.{ℕ, min}
 use mathlib.Core.List.{List, [], _∷_, _++_}
 use lib.Dec.{ltb}
 use lib.ListN.{length, set, take, drop}
-use Rattle.records.specs.Refusals.{Answer, refused, given, number, Tests, outcome, answer}
+use Rattle.records.specs.Refusals.{Answer, Tests, outcome, answer, verdict}
 use Rattle.records.specs.Jobs.{jobAt, timesOk, countTests}
 use Rattle.records.specs.declared.job.Job.{Job}
-use Rattle.desk.specs.declared.EditAnswer.{EditAnswer}
-use Rattle.desk.specs.declared.EditAnswer.the-variants.{Done, Refused}
 use Rattle.desk.specs.declared.held.Edited.{Edited}
-
--- What edit answers, in 01's numbers: it gives no value.
-abbrev pub editAnswer : EditAnswer → Answer (Unit {0})
-editAnswer Done = given tt
-editAnswer (Refused refusal) = refused (number refusal)
 
 -- "This call checks only refusals 1 (on the table's count), 4 and 5; entries it doesn't edit are not judged."
 abbrev pub editTests : ℕ → ℕ → ℕ → ℕ → ℕ → Tests
@@ -42,7 +35,7 @@ abbrev pub roomy : ℕ
 roomy = 10
 
 abbrev pub heldAnswer : Edited → Answer (Unit {0}) × List Job
-heldAnswer r = (editAnswer (r .answer), r .jobs)
+heldAnswer r = (verdict (r .answer), r .jobs)
 
 -- The first n jobs are lent to edit; the others stay.
 unfoldable pub editFirst : List Job → ℕ → ℕ → ℕ → ℕ → ℕ → Answer (Unit {0}) × List Job

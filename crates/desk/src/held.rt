@@ -2,15 +2,15 @@
 ghost use mathlib.Core.Path.{_≡_};
 ghost use Prim.Native.Nat.{_≤_};
 ghost use Rattle.desk.specs.Edits.{roomy, heldAnswer, editFirst, editHeld};
-use crate::EditAnswer;
 use records::job::Job;
+use records::refusal::Verdict;
 
 // The entries of a held table: more than a call accepts.
 pub const ROOM: usize = Job::MOST + 2;
 
 // The answer, and the table after the edit.
 pub struct Edited {
-    pub answer: EditAnswer,
+    pub answer: Verdict,
     pub jobs: [Job; ROOM],
 }
 

@@ -1,9 +1,9 @@
 // Edits of one table, for a stored run: an edit that is done, each refusal, and a neighbour that no job block could have and that stays.
 // Each job's delay, which no edit changes, is printed last.
-use desk::EditAnswer;
 use desk::held::ROOM;
 use libc::STDOUT_FILENO;
 use records::job::Job;
+use records::refusal::Verdict;
 
 fn print_number(number: u16, end: &[u8]) {
     io::print_decimal(STDOUT_FILENO, number as u64);
@@ -18,12 +18,12 @@ fn print_job(job: Job) {
     print_number(job.delay as u16, b"\n");
 }
 
-fn print_answer(answer: EditAnswer) {
+fn print_answer(answer: Verdict) {
     match answer {
-        EditAnswer::Done => {
+        Verdict::Accepted => {
             io::write_all(STDOUT_FILENO, b"done\n");
         }
-        EditAnswer::Refused(refusal) => {
+        Verdict::Refused(refusal) => {
             io::write_all(STDOUT_FILENO, b"refused ");
             print_number(refusal.number() as u16, b"\n");
         }

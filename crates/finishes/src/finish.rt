@@ -1,6 +1,6 @@
 // The search for a finish: some plain steps of the iteration, then steps with an estimate.
 ghost use mathlib.Core.Path.{_≡_};
-ghost use Prim.Native.Nat.{suc, _+_, _*_, _/_, _^_, _<_, _≤_, max};
+ghost use Prim.Native.Nat.{suc, _+_, _*_, _/_, _<_, _≤_, max};
 ghost use lib.Dec.{leb};
 ghost use Rattle.sets.specs.Sets.{has, Collects};
 ghost use Rattle.records.specs.Limits.{mostJobs};

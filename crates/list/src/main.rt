@@ -6,8 +6,8 @@ use libc::STDIN_FILENO;
 use libc::STDOUT_FILENO;
 use lists::fault::Fault;
 use lists::list::ListAnswer;
-use records::block::Wrote;
 use records::job::Job;
+use records::refusal::Counted;
 
 fn print_fault(line: u32, fault: Fault) {
     let mut output = [0u8; text::fault::SIZE];
@@ -18,8 +18,8 @@ fn print_fault(line: u32, fault: Fault) {
 // Prints the block of the first n jobs of a table; without jobs it is empty.
 fn print_block(table: [Job; Job::MOST], n: usize) {
     let mut block = [0u8; Job::SIZE * Job::MOST];
-    let wrote = records::block::write_records(table, n, &mut block);
-    let Wrote::Bytes(size) = wrote else {
+    let wrote = records::block::write_unjudged(table, n, &mut block);
+    let Counted::Count(size) = wrote else {
         return;
     };
     io::write_all(STDOUT_FILENO, &block[..size]);

@@ -1,5 +1,5 @@
 -- Laws of the bounds of a configuration. Assumes nothing.
-use Prim.Native.Nat.{ℕ, suc, _≤_, _<_}
+use Prim.Native.Nat.{ℕ, suc, _-_, min, _≤_, _<_}
 use mathlib.Core.Path.{_≡_, refl, sym, ap, ap₂, _∙_}
 use mathlib.Core.Bool.{Bool, true, false, _&&_}
 use mathlib.Core.List.{List}
@@ -7,12 +7,15 @@ use native.Mathlib.Decide.{decLe}
 use native.Mathlib.Omega.{arith}
 use lib.Dec.{eqb, ltb}
 use lib.ListN.{length, getD, take, List·getD-eq-default}
-use lib.Seq.{length-take-le}
+use lib.Seq.{length-take-le, getD-take}
 use borrow.Author.Tests.{eq-eqb, ne-eqb, lt-ltb, le-ltb}
 use Rattle.sets.specs.Places.{every}
 use Rattle.sets.specs.Sets.{has, Collects}
 use Rattle.sets.proofs.Places.{list-at, list-length, list-same, every-same}
+use Rattle.records.specs.Limits.{mostJobs}
+use Rattle.records.specs.Records.{wordBytes, table, written}
 use Rattle.records.specs.declared.job.Job.{Job}
+use Rattle.records.proofs.FixedWidth.{cut-take, cut-length, take-table, table-at}
 use Rattle.configuration.specs.declared.setting.Setting.{Setting}
 use Rattle.configuration.specs.Settings.{blankSetting, settingAt, levelAt}
 use Rattle.response.specs.Demand.{bound}
@@ -20,7 +23,8 @@ use Rattle.search.specs.Search.{plainWorkload, boundBy}
 use Rattle.response.proofs.Easier.{bound-same, bound-take}
 use Rattle.search.proofs.BothBounds.{bound-plain}
 use Rattle.search.specs.declared.workload.Workload.{Workload}
-use Rattle.marker.specs.Bounds.{quantaOf, layerOf, aboveOf, boundAt, boundsOf, isPlaced}
+use Rattle.marker.specs.Bounds.{quantaOf, layerOf, aboveOf, boundAt, boundsOf, isServed, allServed}
+use Rattle.marker.specs.Marks.{boundSize, marked}
 
 -- ---- a job's bound, by its level
 
@@ -62,8 +66,27 @@ module _ (jobs : List Job) (a b : List Setting) (same : (i : ℕ) → i < length
   pub bounds-settings : boundsOf jobs a ≡ boundsOf jobs b
   bounds-settings = list-same (boundAt jobs a) (boundAt jobs b) (length jobs) bound-settings
 
-  pub placed-settings : every (isPlaced a) (length jobs) ≡ every (isPlaced b) (length jobs)
-  placed-settings = every-same (isPlaced a) (isPlaced b) (length jobs) (λ i l. ap (λ (s : Setting). ltb 0 (s .policy)) (same i l))
+-- Tables of k entries, and a count that is cut to k.
+pub bounds-table : (jobs : List Job) (settings : List Setting) (k n count : ℕ) → length jobs ≡ k → count ≡ min n k → boundsOf (take count jobs) settings ≡ boundsOf (take n jobs) (take n settings)
+bounds-table jobs settings k n count size cut =
+    ap (λ (l : List Job). boundsOf l settings) (cut-take jobs k n count size cut)
+    ∙ bounds-settings (take n jobs) settings (take n settings) (λ i l. sym (getD-take n settings i blankSetting (omega (arith, cut-length jobs k n count size cut))))
+
+-- ---- the table of the bounds
+
+module _ (jobs : List Job) (settings : List Setting) (m : ℕ) (size : length jobs ≡ m) where
+  abbrev bounds : List ℕ
+  bounds = boundsOf jobs settings
+
+  pub served-table : every (λ i. ltb 0 (getD (table mostJobs 0 bounds) i 0)) m ≡ allServed jobs settings
+  served-table =
+      ap (every (λ i. ltb 0 (getD (table mostJobs 0 bounds) i 0))) (sym size)
+      ∙ every-same (λ i. ltb 0 (getD (table mostJobs 0 bounds) i 0)) (isServed jobs settings) (length jobs)
+      (λ i l. ap (ltb 0) (table-at 0 bounds (mostJobs - length bounds) i ∙ list-at (boundAt jobs settings) (length jobs) i 0 l))
+
+  pub marked-table : (output : List ℕ) → written boundSize wordBytes (take m (table mostJobs 0 bounds)) output ≡ marked jobs settings output
+  marked-table output =
+      ap (λ (l : List ℕ). written boundSize wordBytes l output) (take-table mostJobs 0 m bounds (list-length (boundAt jobs settings) (length jobs) ∙ size))
 
 -- ---- the bound as the code finds it, from the numbers of the layer and of the set above
 

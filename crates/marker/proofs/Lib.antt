@@ -1,4 +1,4 @@
 pub mod Configured
-pub mod HandIn
+pub mod Tabled
 pub mod Verdicts
 pub mod Worked

@@ -13,7 +13,8 @@ use Rattle.configuration.specs.Settings.{settingBytes}
 use Rattle.configuration.specs.Configuration.{placedLevel, shaped, levelled}
 use Rattle.response.specs.Demand.{ceilDiv, work, interference, otherQuanta, layerShare, demand, least, finish, larger, run, largestResponse, bound}
 use Rattle.marker.specs.Bounds.{quantaOf, layerOf, aboveOf, boundAt}
-use Rattle.marker.specs.Marks.{boundsOutcome, markOutcome, settingsOf}
+use Rattle.configuration.specs.Blocks.{settingsOf}
+use Rattle.marker.specs.Marks.{boundsOutcome, markOutcome}
 
 -- What mark and bounds are to answer, and to leave in the output.
 pub record Answers : Type 0 where

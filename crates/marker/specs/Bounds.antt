@@ -1,4 +1,5 @@
--- The bounds of a configuration, full or not, and whether it passes (01, "The response-time test"). Assumes nothing.
+-- The bounds of a configuration, full or not, and whether it passes (01, "The response-time test"). The bounds are those of any list of
+-- settings. Assumes nothing.
 use Prim.Native.Nat.{ℕ}
 use mathlib.Core.Bool.{Bool, true, false, _&&_}
 use mathlib.Core.List.{List}
@@ -9,6 +10,7 @@ use Rattle.sets.specs.Sets.{Set}
 use Rattle.records.specs.declared.job.Job.{Job}
 use Rattle.configuration.specs.declared.setting.Setting.{Setting}
 use Rattle.configuration.specs.Settings.{settingAt, levelAt}
+use Rattle.configuration.specs.Configuration.{full}
 use Rattle.response.specs.Demand.{bound}
 
 -- The quanta of a configuration, in job order.
@@ -32,16 +34,12 @@ boundAt jobs settings k =
 abbrev pub boundsOf : List Job → List Setting → List ℕ
 boundsOf jobs settings = listOf (boundAt jobs settings) (length jobs)
 
--- "A configuration is full if each job is placed."
-abbrev pub isPlaced : List Setting → ℕ → Bool
-isPlaced settings i = ltb 0 (settingAt settings i .policy)
-
-abbrev pub full : List Job → List Setting → Bool
-full jobs settings = every (isPlaced settings) (length jobs)
-
 -- "It passes if it is full and no bound is 0."
 abbrev pub isServed : List Job → List Setting → ℕ → Bool
 isServed jobs settings k = ltb 0 (boundAt jobs settings k)
 
+abbrev pub allServed : List Job → List Setting → Bool
+allServed jobs settings = every (isServed jobs settings) (length jobs)
+
 abbrev pub passes : List Job → List Setting → Bool
-passes jobs settings = full jobs settings && every (isServed jobs settings) (length jobs)
+passes jobs settings = full jobs settings && allServed jobs settings

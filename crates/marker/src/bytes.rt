@@ -2,10 +2,10 @@
 ghost use mathlib.Core.Path.{_≡_};
 ghost use mathlib.Core.List.{_++_};
 ghost use Prim.Native.Nat.{_*_, _≤_};
-ghost use lib.ListN.{length, drop};
+ghost use lib.ListN.{length, take, drop};
 ghost use Rattle.records.specs.Limits.{mostJobs};
-ghost use Rattle.records.specs.Records.{wordBytes};
-ghost use Rattle.marker.specs.Marks.{boundSize, boundsWritten};
+ghost use Rattle.records.specs.Records.{wordBytes, written};
+ghost use Rattle.marker.specs.Marks.{boundSize};
 use crate::block;
 use records::job::Job;
 
@@ -21,7 +21,7 @@ fn put_bound(output: &mut [u8], bound: u16)
 // Writes the first n bounds of a table.
 pub(crate) fn encode(bounds: [u16; Job::MOST], n: usize, output: &mut [u8])
     requires { ⌜ (n ≤ mostJobs) × (boundSize * n ≤ length (now output)) ⌝ }
-    ensures { λ _. ⌜ now (output .exit) ≡ boundsWritten n bounds (now (output .entry)) ⌝ }
+    ensures { λ _. ⌜ now (output .exit) ≡ written boundSize wordBytes (take n bounds) (now (output .entry)) ⌝ }
 {
     let mut i = 0;
     while i < n {

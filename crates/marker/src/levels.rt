@@ -1,12 +1,11 @@
-// The bounds of a configuration's jobs, by their levels.
+// The bound of a job, by the levels of a table of settings.
 ghost use mathlib.Core.Path.{_≡_};
 ghost use Prim.Native.Nat.{_≤_, _<_};
 ghost use lib.ListN.{take};
 ghost use Rattle.sets.specs.Sets.{Collects};
 ghost use Rattle.records.specs.Limits.{mostJobs};
-ghost use Rattle.records.specs.Records.{table};
 ghost use Rattle.search.specs.Search.{plainWorkload};
-ghost use Rattle.marker.specs.Bounds.{quantaOf, boundAt, boundsOf};
+ghost use Rattle.marker.specs.Bounds.{quantaOf, boundAt};
 ghost use Rattle.marker.specs.Relations.{standing, stands};
 use configuration::setting::Setting;
 use records::job::Job;
@@ -61,7 +60,12 @@ fn quanta_of(settings: [Setting; Job::MOST]) -> [u8; Job::MOST]
 }
 
 // The bound of the job at place k of n.
-fn bound_of(workload: Workload, settings: [Setting; Job::MOST], n: usize, k: usize) -> u16
+pub(crate) fn bound_of(
+    workload: Workload,
+    settings: [Setting; Job::MOST],
+    n: usize,
+    k: usize,
+) -> u16
     requires { ⌜ (n ≤ mostJobs) × (k < n) × (workload ≡ plainWorkload (workload .jobs)) ⌝ }
     ensures { λ r. ⌜ r ≡ boundAt (take n (workload .jobs)) settings k ⌝ }
 {
@@ -73,22 +77,4 @@ fn bound_of(workload: Workload, settings: [Setting; Job::MOST], n: usize, k: usi
     let layer = level_set(Relation::Same, settings, n, level);
     let above = level_set(Relation::Above, settings, n, level);
     workload.bound(quanta_of(settings), layer, above, k)
-}
-
-// The bounds of n jobs.
-pub(crate) fn bounds_of(
-    workload: Workload,
-    settings: [Setting; Job::MOST],
-    n: usize,
-) -> [u16; Job::MOST]
-    requires { ⌜ (n ≤ mostJobs) × (workload ≡ plainWorkload (workload .jobs)) ⌝ }
-    ensures { λ r. ⌜ r ≡ table mostJobs 0 (boundsOf (take n (workload .jobs)) settings) ⌝ }
-{
-    let mut bounds = [0u16; Job::MOST];
-    let mut k = 0;
-    while k < n {
-        bounds[k] = bound_of(workload, settings, n, k);
-        k += 1;
-    }
-    bounds
 }

@@ -71,25 +71,25 @@ module _ (question : Question) (A : Accepted question) (left set : ℕ) (left-le
     pub laid : Laid question set above
     laid = record { accepted = A; inside = set-less; over = rw is (rest-lt (question .n) left set left-less) }
 
-    module _ (quanta : List ℕ) (lowest : quanta ≡ lowestQuanta (question .low) (has set)) where
+    module _ (quanta : List ℕ) (lowest : quanta ≡ lowestQuanta (question .range .low) (has set)) where
       pub begins : Pending question set above set quanta
       begins = record {
         laid = laid;
         sub = within-refl set;
-        standing = lowest-stands (listed question) (listed-costs question A) (question .low) (question .high) (A .low) (has set) (has above) (A .ordered) quanta
-            (omega (arith, ap length lowest, list-length (λ i. cond (has set i) (question .low) 0) mostJobs, listed-length question A, A .few))
-            (λ i. ap (λ (v : List ℕ). getD v i 0) lowest ∙ lowest-at question set above laid (question .low) i)
+        standing = lowest-stands (listed question) (listed-costs question A) (question .range .low) (question .range .high) (A .low) (has set) (has above) (A .ordered) quanta
+            (omega (arith, ap length lowest, list-length (λ i. cond (has set i) (question .range .low) 0) mostJobs, listed-length question A, A .few))
+            (λ i. ap (λ (v : List ℕ). getD v i 0) lowest ∙ lowest-at question set above laid (question .range .low) i)
             (λ i l. has-high (question .n) set i set-less (omega (arith, listed-length question A)));
       }
 
     -- What settling comes to.
-    pub ends : (v : List ℕ) (b : Bool) (u : List ℕ) → Settles (listed question) (question .low) (question .high) (has set) (has above) (has set) v b u
-        → cond {A = Option (List ℕ)} b (some (take (question .n) u)) none ≡ quantaFor (listed question) (question .low) (question .high) left set
+    pub ends : (v : List ℕ) (b : Bool) (u : List ℕ) → Settles (listed question) (question .range .low) (question .range .high) (has set) (has above) (has set) v b u
+        → cond {A = Option (List ℕ)} b (some (take (question .n) u)) none ≡ quantaFor (listed question) (question .range .low) (question .range .high) left set
     unfolding quantaFor
     ends v b u S =
         ap (λ (n : ℕ). cond {A = Option (List ℕ)} b (some (take n u)) none) (sym (listed-length question A))
-        ∙ rw (← is) (says-smallest (listed question) (listed-costs question A) (question .low) (question .high) (A .low) (has set) (has above) v b u S)
+        ∙ rw (← is) (says-smallest (listed question) (listed-costs question A) (question .range .low) (question .range .high) (A .low) (has set) (has above) v b u S)
 
-    pub out : Hopeless (listed question) (question .low) (question .high) (has set) (has above) → quantaFor (listed question) (question .low) (question .high) left set ≡ none
+    pub out : Hopeless (listed question) (question .range .low) (question .range .high) (has set) (has above) → quantaFor (listed question) (question .range .low) (question .range .high) left set ≡ none
     unfolding quantaFor
     out h = rw (← is) h

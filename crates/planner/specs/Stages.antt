@@ -3,35 +3,36 @@ use Prim.Native.Nat.{ℕ, _≤_, _<_}
 use mathlib.Core.Path.{_≡_}
 use mathlib.Core.Bool.{Bool}
 use mathlib.Core.List.{List}
-use mathlib.Core.Option.{Option, some}
+use mathlib.Core.Option.{some}
 use lib.ListN.{length, getD, take}
 use Rattle.sets.specs.Sets.{has, size, firstJobs}
-use Rattle.sets.specs.Order.{order, subsets, considered, consideredCount}
+use Rattle.sets.specs.Order.{subsets, considered, consideredCount}
 use Rattle.records.specs.Limits.{mostJobs}
 use Rattle.records.specs.Records.{table}
 use Rattle.records.specs.Jobs.{jobAt}
 use Rattle.configuration.specs.declared.setting.Setting.{Setting}
 use Rattle.configuration.specs.Settings.{settingAt, settingTable}
 use Rattle.response.specs.Demand.{bound}
-use Rattle.assignment.specs.Plan.{isFound, quantaFor, chosen, Stage, settingIn, put, planFrom, start}
+use Rattle.assignment.specs.Plan.{isFound, chosen, Stage, settingIn, put, planFrom, start}
 use Rattle.planner.specs.declared.quanta.Question.{Question}
 use Rattle.planner.specs.declared.choice.Choice.{Choice}
 use Rattle.planner.specs.declared.levels.Progress.{Progress}
-use Rattle.planner.specs.Questions.{listed}
+use Rattle.planner.specs.Questions.{listed, finds}
 
--- The search for quanta of the question's list and range, and whether a set can be taken.
-abbrev pub finds : Question → ℕ → ℕ → Option (List ℕ)
-finds question = quantaFor (listed question) (question .low) (question .high)
+-- The most sets of a sequence: those of eight jobs that are not empty.
+abbrev pub mostSets : ℕ
+mostSets = 255
 
+-- Whether a set can be taken.
 abbrev pub takeable : Question → ℕ → ℕ → Bool
 takeable question left s = isFound (finds question left s)
 
--- What a level's search answers: the set chosen, its quanta, and the count of sets considered.
-pub record Chosen (question : Question) (left : ℕ) (r : Choice) : Type 0 where
-  pub set : r .set ≡ chosen (finds question) order left
+-- What a level's search along a sequence of sets answers: the set chosen, its quanta, and the count of sets considered.
+pub record Chosen (question : Question) (sequence : List ℕ) (left : ℕ) (r : Choice) : Type 0 where
+  pub set : r .set ≡ chosen (finds question) sequence left
   pub quanta : 0 < r .set → finds question left (r .set) ≡ some (take (question .n) (r .quanta))
-  pub count : r .considered ≡ length (considered (takeable question left) (subsets left order))
-  pub few : r .considered ≤ length order
+  pub count : r .considered ≡ length (considered (takeable question left) (subsets left sequence))
+  pub few : r .considered ≤ length sequence
 
 -- ---- the tables of a stage
 
@@ -53,8 +54,8 @@ stageOf progress = record { left = progress .left; settings = progress .settings
 
 -- ---- all levels
 
-abbrev pub lastStage : Question → Stage
-lastStage question = planFrom (listed question) (finds question) order (question .n) (start (listed question))
+abbrev pub lastStage : Question → List ℕ → Stage
+lastStage question sequence = planFrom (listed question) (finds question) sequence (question .n) (start (listed question))
 
-abbrev pub countAll : Question → ℕ
-countAll question = consideredCount (takeable question) order (question .n) (firstJobs (question .n))
+abbrev pub countAll : Question → List ℕ → ℕ
+countAll question sequence = consideredCount (takeable question) sequence (question .n) (firstJobs (question .n))

@@ -1,7 +1,8 @@
 // The search for the set that a level takes.
-ghost use Prim.Native.Nat.{_^_, _<_};
+ghost use Prim.Native.Nat.{_^_, _≤_, _<_};
+ghost use lib.ListN.{length};
 ghost use Rattle.planner.specs.Questions.{Accepted};
-ghost use Rattle.planner.specs.Stages.{Chosen};
+ghost use Rattle.planner.specs.Stages.{mostSets, Chosen};
 use crate::quanta;
 use crate::quanta::Question;
 use records::job::Job;
@@ -14,16 +15,15 @@ pub struct Choice {
     pub considered: u16,
 }
 
-// Goes through the subsets of the jobs left, in the order of the sets.
-pub(crate) fn choose(question: Question, left: u8) -> Choice
-    requires { ⌜ Accepted question × (left < 2 ^ question .n) ⌝ }
-    ensures { λ r. ⌜ Chosen question left r ⌝ }
+// Goes through the subsets of the jobs left, in the order of the sequence.
+pub(crate) fn choose(question: Question, sequence: &[u8], left: u8) -> Choice
+    requires { ⌜ Accepted question × (left < 2 ^ question .n) × (length (now sequence) ≤ mostSets) ⌝ }
+    ensures { λ r. ⌜ Chosen question (now (sequence .entry)) left r ⌝ }
 {
-    let sequence = sets::order::in_order();
     let mut place = 0;
     let mut missed: u16 = 0;
     loop {
-        let next = sets::order::next_subset(&sequence[..], left, place);
+        let next = sets::order::next_subset(sequence, left, place);
         let Next::At(at) = next else {
             return Choice {
                 set: 0,

@@ -1,17 +1,15 @@
 // The levels, from the lowest up.
 ghost use mathlib.Core.Path.{_≡_};
-ghost use mathlib.Core.Bool.{cond};
-ghost use Prim.Native.Nat.{ℕ, _+_, _*_, _^_, _≤_, _<_};
-ghost use lib.ListN.{getD, take};
-ghost use Rattle.sets.specs.Sets.{has, size};
+ghost use Prim.Native.Nat.{_+_, _^_, _≤_, _<_};
+ghost use lib.ListN.{length, take};
+ghost use Rattle.sets.specs.Sets.{size};
 ghost use Rattle.records.specs.Limits.{mostJobs};
 ghost use Rattle.records.specs.Records.{table};
-ghost use Rattle.records.specs.Jobs.{jobAt};
-ghost use Rattle.configuration.specs.Settings.{settingAt, settingTable};
+ghost use Rattle.configuration.specs.Settings.{settingTable};
 ghost use Rattle.response.specs.Demand.{bound};
 ghost use Rattle.assignment.specs.Plan.{settingIn, place as placeOf, start as startOf};
 ghost use Rattle.planner.specs.Questions.{listed, Accepted, Laid};
-ghost use Rattle.planner.specs.Stages.{settingsWith, boundsWith, progressOf, stageOf, lastStage, countAll};
+ghost use Rattle.planner.specs.Stages.{mostSets, settingsWith, boundsWith, progressOf, stageOf, lastStage, countAll};
 use crate::choice;
 use crate::choice::Choice;
 use crate::quanta::Question;
@@ -147,15 +145,15 @@ fn start(question: Question) -> Progress
     }
 }
 
-// From the lowest level up, each takes the first set that can be taken.
-pub(crate) fn plan_levels(question: Question) -> Progress
-    requires { ⌜ Accepted question ⌝ }
-    ensures { λ r. ⌜ r ≡ progressOf (lastStage question) (countAll question) ⌝ }
+// From the lowest level up, each takes the first set of the sequence that can be taken.
+pub(crate) fn plan_levels(question: Question, sequence: &[u8]) -> Progress
+    requires { ⌜ Accepted question × (length (now sequence) ≤ mostSets) ⌝ }
+    ensures { λ r. ⌜ r ≡ progressOf (lastStage question (now (sequence .entry))) (countAll question (now (sequence .entry))) ⌝ }
 {
     let mut progress = start(question);
     let mut level = question.n;
     while 0 < level {
-        let choice = choice::choose(question, progress.left);
+        let choice = choice::choose(question, sequence, progress.left);
         if choice.set == 0 {
             progress.considered += choice.considered;
             return progress;

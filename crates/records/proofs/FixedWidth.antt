@@ -1,17 +1,20 @@
 -- Laws of records of one fixed width: reading and writing them one after the other, and the two round trips from the round trip
 -- of one record. They hold for every kind of record and every width. Assumes nothing.
-use Prim.Native.Nat.{ℕ, zero, suc, _+_, _-_, _*_, _/_, _%_, _≤_, _<_}
-use mathlib.Core.Path.{_≡_, refl, sym, ap, _∙_}
+use Prim.Native.Nat.{ℕ, zero, suc, _+_, _-_, _*_, _/_, _%_, min, _≤_, _<_}
+use mathlib.Core.Path.{_≡_, refl, sym, ap, ap₂, _∙_}
 use mathlib.Core.List.{List, [], _∷_, _++_, append-assoc, append-nil}
 use native.Mathlib.Numerals.{add-one}
 use native.Mathlib.Nat.{mul-suc, mul-zero, add-comm, zero-add}
 use native.Mathlib.Decide.{decLe}
 use native.Mathlib.Omega.{arith}
-use lib.ListN.{length, getD, take, drop, set, replicate, length-append, length-drop, drop-of-length-le, List·getD-append, List·getD-eq-default, length-replicate}
+use lib.ListN.{length, getD, take, drop, set, replicate, length-append, length-take, length-drop, drop-of-length-le, List·getD-append, List·getD-eq-default, length-replicate}
 use lib.Seq.{ext-getD, drop-cons, drop-drop, set-at, append-snoc, take-all, take-at, drop-at, take-suc, take-add, length-take-le, getD-append-add}
+use borrow.Author.Tests.{lt-leb, le-leb, leb-true}
 use Rattle.sets.specs.Places.{listOf}
 use Rattle.sets.proofs.Places.{list-suc, list-length, list-at}
-use Rattle.records.specs.Records.{word, wordBytes, flat, chunks, table}
+use Rattle.records.specs.Refusals.{Answer, given, refused}
+use Rattle.records.specs.Records.{word, wordBytes, flat, chunks, table, written, roomTests, writeRecords}
+use Rattle.records.proofs.Outcomes.{gives}
 
 -- ---- lists of records
 
@@ -93,8 +96,28 @@ table-blank {A} k n z h =
       | no l ↦ let short : length (listOf (λ (j : ℕ). z) n) ≤ i = omega (arith, list-length (λ (j : ℕ). z) n) in List·getD-eq-default (listOf (λ (j : ℕ). z) n) z short
     ]
 
+-- A count that is cut to the size of a table takes the same entries.
+module _ {A : Type 0} (xs : List A) (k n count : ℕ) (size : length xs ≡ k) (cut : count ≡ min n k) where
+  pub cut-take : take count xs ≡ take n xs
+  cut-take = elim (decLe n k) [
+    | yes l ↦ let same : count ≡ n = omega arith in ap (λ (m : ℕ). take m xs) same
+    | no l ↦ take-all count xs (omega arith) ∙ sym (take-all n xs (omega arith))
+  ]
+
+  pub cut-length : length (take n xs) ≡ count
+  cut-length = length-take n xs ∙ omega arith
+
 pub take-table : {A : Type 0} (k : ℕ) (z : A) (n : ℕ) (xs : List A) → length xs ≡ n → take n (table k z xs) ≡ xs
 take-table k z n xs e = take-at xs _ n e
+
+-- The same with a count that is cut to the size of the table.
+pub take-cut : {A : Type 0} (k : ℕ) (z : A) (n : ℕ) (xs : List A) → length xs ≡ min n k → take n (table k z xs) ≡ xs
+take-cut k z n xs e = elim (decLe n k) [
+  | yes l ↦ take-table k z n xs (omega arith)
+  | no l ↦
+      let whole : length xs ≡ k = omega arith in
+      ap (take n) (table-full k z xs whole) ∙ take-all n xs (omega arith)
+]
 
 -- ---- loops over records
 
@@ -127,6 +150,39 @@ write-next bytes w h i t z d out ys k e g =
     let lp : length (flat bytes (take i t)) ≡ w * i = length-flat bytes w h (take i t) ∙ ap (λ (m : ℕ). w * m) n in
     rw (add-one i, take-suc t i z k, flat-snoc bytes (take i t) (getD t i z), mul-suc w i)
     (put-after (flat bytes (take i t)) (bytes (getD t i z)) d (w * i) w lp out e ys g)
+
+-- All records are written.
+pub written-at : {A : Type 0} (w : ℕ) (bytes : A → List ℕ) (xs : List A) (n : ℕ) (output : List ℕ) → length xs ≡ n → flat bytes xs ++ drop (w * n) output ≡ written w bytes xs output
+written-at w bytes xs n output e = ap (λ (m : ℕ). flat bytes xs ++ drop (w * m) output) (sym e)
+
+-- What a writer of a table's first n entries comes to, without room for them and with it.
+module _ {A : Type 0} (w : ℕ) (bytes : A → List ℕ) (xs : List A) (k n count : ℕ) (size : length xs ≡ k) (cut : count ≡ min n k) (output : List ℕ) where
+  need : w * length (take n xs) ≡ w * count
+  need = ap (λ (m : ℕ). w * m) (cut-length xs k n count size cut)
+
+  pub no-room : length output < w * count → (refused 12, output) ≡ writeRecords w bytes (take n xs) output
+  unfolding writeRecords
+  no-room h = simp (lt-leb (w * length (take n xs)) (length output) (omega (arith, need)))
+
+  pub room : w * count ≤ length output → (after : List ℕ) → after ≡ written w bytes (take count xs) output → (given (w * count), after) ≡ writeRecords w bytes (take n xs) output
+  unfolding writeRecords
+  room h after e =
+      ap₂ (λ (m : ℕ) (l : List ℕ). (given m, l)) (sym need) (e ∙ ap (λ (l : List A). written w bytes l output) (cut-take xs k n count size cut))
+      ∙ simp (le-leb (w * length (take n xs)) (length output) (omega (arith, need)))
+
+-- A writer that has room.
+pub has-room : {A : Type 0} (w : ℕ) (bytes : A → List ℕ) (xs : List A) (output : List ℕ) → w * length xs ≤ length output → writeRecords w bytes xs output .1 ≡ written w bytes xs output
+unfolding writeRecords
+has-room w bytes xs output h = simp (le-leb (w * length xs) (length output) h)
+
+-- What a writer gives is within its output.
+pub wrote-within : {A : Type 0} (w : ℕ) (bytes : A → List ℕ) (xs : List A) (output : List ℕ) (got : Answer ℕ × List ℕ) (size : ℕ) → got ≡ writeRecords w bytes xs output
+    → got .0 ≡ given size → size ≤ length output
+unfolding writeRecords
+wrote-within w bytes xs output got size e f =
+    let need : ℕ = w * length xs in
+    let told = gives (roomTests need (length output)) need (written w bytes xs output) output got size e f in
+    omega (arith, told .1, leb-true need (length output) (told .0 .0))
 
 -- ---- the round trips, from the round trip of one record
 

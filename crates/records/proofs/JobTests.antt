@@ -1,18 +1,19 @@
 -- The tests of jobs see a table as they see the list that it begins with, and what they say of each job. Assumes nothing.
 use Prim.Native.Nat.{ℕ, zero, suc, _-_, _≤_, _<_}
 use mathlib.Core.Bool.{true, _&&_, and-true, and-false}
-use mathlib.Core.Path.{_≡_, refl, ap, ap₂}
-use mathlib.Core.List.{List}
+use mathlib.Core.Path.{_≡_, refl, sym, ap, ap₂, subst, _∙_}
+use mathlib.Core.List.{List, _++_}
 use native.Mathlib.Decide.{decLe}
 use native.Mathlib.Omega.{arith}
 use lib.Dec.{leb}
 use lib.ListN.{length, take}
-use lib.Seq.{getD-take}
+use lib.Seq.{getD-take, length-take-le}
 use Rattle.sets.specs.Places.{every}
 use Rattle.sets.proofs.Places.{every-same}
 use borrow.Author.Tests.{le-leb, lt-leb}
 use Rattle.records.specs.Limits.{mostJobs, longestPeriod, longestDeadline}
-use Rattle.records.specs.Jobs.{blankJob, jobAt, timesOk, jobOk, idBefore, jobOkAt, jobTests, jobTable}
+use Rattle.records.specs.Refusals.{Tests, Accepts}
+use Rattle.records.specs.Jobs.{blankJob, jobAt, timesOk, jobOk, idBefore, jobOkAt, jobTests, countTests, tableTests, AcceptedJobs, jobTable}
 use Rattle.records.specs.declared.job.Job.{Job}
 use Rattle.records.specs.declared.judge.JobRule.{JobRule}
 use Rattle.records.specs.declared.judge.JobRule.the-variants.{Id, Order, Times}
@@ -34,6 +35,17 @@ tests-table n jobs = tests-same n (jobTable jobs) jobs (λ i l. table-at blankJo
 
 pub tests-take : (n : ℕ) (jobs : List Job) → jobTests n (take n jobs) ≡ jobTests n jobs
 tests-take n jobs = tests-same n (take n jobs) jobs (λ i l. getD-take n jobs i blankJob l)
+
+-- A table is accepted exactly if its first n jobs are an accepted list.
+module _ (n : ℕ) (jobs : List Job) (h : n ≤ length jobs) where
+  tests-list : tableTests (length (take n jobs)) (take n jobs) ≡ tableTests n jobs
+  tests-list = ap (λ (k : ℕ). tableTests k (take n jobs)) (length-take-le n jobs h) ∙ ap (λ (tests : Tests). countTests n ++ tests) (tests-take n jobs)
+
+  pub accepted-take : Accepts (tableTests n jobs) → AcceptedJobs (take n jobs)
+  accepted-take ok = subst (λ (tests : Tests). Accepts tests) (sym tests-list) ok
+
+  pub accepted-table : AcceptedJobs (take n jobs) → Accepts (tableTests n jobs)
+  accepted-table ok = subst (λ (tests : Tests). Accepts tests) tests-list ok
 
 -- ---- refusal 5
 

@@ -5,6 +5,6 @@ pub mod JobTests
 pub mod RoundTrip
 pub mod RefusalNumbers
 pub mod Reading
-pub mod RangeTests
+pub mod Asking
 pub mod Cases
 pub mod Edges

@@ -1,13 +1,15 @@
 -- Laws of the outcome of a call by its tests. Assumes nothing.
 use Prim.Native.Nat.{ℕ}
 use mathlib.Core.Path.{_≡_, refl, sym, ap, _∙_}
-use mathlib.Core.List.{[], _∷_, _++_}
+use mathlib.Core.List.{[], _∷_, _++_, append-nil}
 use mathlib.Core.Bool.{Bool, true, false, cond}
 use native.Mathlib.Omega.{arith}
-use Rattle.records.specs.Refusals.{Answer, refused, given, number, Tests, outcome, answer, verdict, turned, Accepts}
+use Rattle.records.specs.Refusals.{Answer, refused, given, number, Tests, outcome, answer, verdict, handed, refusalOf, turned, Accepts}
 use Rattle.records.specs.declared.refusal.Refusal.{Refusal}
 use Rattle.records.specs.declared.refusal.Verdict.{Verdict}
-use Rattle.records.specs.declared.refusal.Verdict.the-variants.{Accepted, Turned}
+use Rattle.records.specs.declared.refusal.Verdict.the-variants.{Accepted, Refused as NotAccepted}
+use Rattle.records.specs.declared.refusal.Counted.{Counted}
+use Rattle.records.specs.declared.refusal.Counted.the-variants.{Count, Refused}
 
 -- ---- tests after tests: the first ones refuse, or the others decide
 
@@ -72,6 +74,14 @@ gives {A} {B} tests values new old got a e f =
     let v : given a ≡ given values = sym f ∙ ap (λ (x : Answer A × B). x .0) g in
     (h, (cc), ap (λ (x : Answer A × B). x .1) g)
 
+-- The same tests with other values: they refuse alike, and let by alike.
+module _ {A B C D : Type 0} (tests : Tests) (values : A) (new old : B) (values′ : C) (new′ old′ : D) where
+  pub refuses-alike : (k : ℕ) → outcome tests values new old .0 ≡ refused k → outcome tests values′ new′ old′ ≡ (refused k, old′)
+  refuses-alike k e = ap (λ (t : Tests). outcome t values′ new′ old′) (sym (append-nil tests)) ∙ stops values new old values′ new′ old′ [] tests k e
+
+  pub gives-alike : (a : A) → outcome tests values new old .0 ≡ given a → outcome tests values′ new′ old′ ≡ (given values′, new′)
+  gives-alike a e = accepts values′ new′ old′ tests (accepted values new old tests a e)
+
 pub accepts-both : (tests later : Tests) → Accepts tests → Accepts later → Accepts (tests ++ later)
 accepts-both [] later g h = h
 accepts-both (t ∷ tests) later g h = (g .0, accepts-both tests later (g .1) h)
@@ -84,10 +94,11 @@ pub accepts-second : (tests later : Tests) → Accepts (tests ++ later) → Acce
 accepts-second [] later h = h
 accepts-second (t ∷ tests) later h = accepts-second tests later (h .1)
 
--- ---- a judgement of the first tests decides what a call with more tests comes to
+-- ---- a part of the way in: its answer decides what a call with more tests comes to, whatever tests follow
 
+-- A part that judges.
 module _ {A B : Type 0} (tests later : Tests) (values : A) (new old : B) (v : Verdict) (judged : verdict v ≡ answer tests tt) where
-  pub turned-by : (refusal : Refusal) → v ≡ Turned refusal → outcome (tests ++ later) values new old ≡ turned refusal old
+  pub turned-by : (refusal : Refusal) → v ≡ NotAccepted refusal → outcome (tests ++ later) values new old ≡ turned refusal old
   turned-by refusal e = stops tt tt tt values new old later tests (number refusal) (sym judged ∙ ap verdict e)
 
   pub passed-by : v ≡ Accepted → outcome (tests ++ later) values new old ≡ outcome later values new old
@@ -95,3 +106,23 @@ module _ {A B : Type 0} (tests later : Tests) (values : A) (new old : B) (v : Ve
 
 pub judged-accepts : (tests : Tests) (v : Verdict) → verdict v ≡ answer tests tt → v ≡ Accepted → Accepts tests
 judged-accepts tests v judged e = accepted tt tt tt tests tt (sym judged ∙ ap verdict e)
+
+-- A part that reads: a count r, and beside it the value that goes with that count. `held` and `blank` are what its own memory holds.
+module _ {A M : Type 0} (tests : Tests) (defined : A) (held blank : M) (r : Counted) (value : ℕ → A) (read : handed r value ≡ outcome tests defined held blank .0) where
+  -- Past the part: its tests hold, and the value is the one defined.
+  pub handed-on : (n : ℕ) → r ≡ Count n → Accepts tests × (value n ≡ defined)
+  handed-on n e =
+      let given-is : outcome tests defined held blank .0 ≡ given (value n) = sym read ∙ ap (λ (x : Counted). handed x value) e in
+      let got = gives tests defined held blank (outcome tests defined held blank) (value n) refl given-is in
+      (got .0, got .1)
+
+  module _ {B C : Type 0} (later : Tests) (values : B) (new old : C) where
+    pub turned-down : (refusal : Refusal) → r ≡ Refused refusal → outcome (tests ++ later) values new old ≡ turned refusal old
+    turned-down refusal e = stops defined held blank values new old later tests (number refusal) (sym read ∙ ap (λ (x : Counted). handed x value) e)
+
+    pub gone-past : (n : ℕ) → r ≡ Count n → outcome (tests ++ later) values new old ≡ outcome later values new old
+    gone-past n e = goes-on defined held blank values new old later tests (value n) (sym read ∙ ap (λ (x : Counted). handed x value) e)
+
+-- What is returned when a count could not be taken out of an answer.
+pub refused-as : {A B : Type 0} (r : Counted) (k refusal : Refusal) (old : B) → r ≡ Refused k → refusal ≡ refusalOf r → turned {A = A} refusal old ≡ turned k old
+refused-as {A} r k refusal old e f = ap (λ (x : Refusal). turned {A = A} x old) (f ∙ ap refusalOf e)

@@ -1,8 +1,8 @@
--- What a caller of read_jobs knows from its answer: the laws by which later calls go on from a job block. Assumes nothing.
+-- What is known of an accepted job block and of its list of jobs, and what a caller of read_jobs knows. Assumes nothing.
 use Prim.Native.Nat.{ℕ, zero, suc, _+_, _%_, _*_, _≤_, _<_}
 use mathlib.Core.Path.{_≡_, refl, sym, ap, subst, _∙_}
 use mathlib.Core.Bool.{true, false≢true}
-use mathlib.Core.List.{List, [], _++_}
+use mathlib.Core.List.{List, []}
 use native.Mathlib.Decide.{decLe}
 use native.Mathlib.Omega.{arith}
 use lib.ListN.{length, getD, drop, List·getD-eq-default}
@@ -11,14 +11,13 @@ use borrow.Author.Tests.{leb-true, eqb-true, le-leb, lt-leb}
 use Rattle.sets.proofs.Places.{every-at}
 use Rattle.records.specs.Limits.{mostJobs}
 use Rattle.records.specs.Records.{chunks}
-use Rattle.records.specs.Refusals.{Answer, number, Tests, outcome, turned, Accepts}
-use Rattle.records.specs.Jobs.{jobSize, jobOf, blankJob, jobAt, NoDelay, timesOk, jobOkAt, jobTests, countTests, tableTests, AcceptedJobs, blockTests, jobCount, jobsIn, jobList, jobTable, jobsAnswer, jobsOutcome, readJobs}
+use Rattle.records.specs.Refusals.{counted, Accepts}
+use Rattle.records.specs.Jobs.{jobSize, jobOf, blankJob, jobAt, NoDelay, timesOk, jobOkAt, jobTests, countTests, tableTests, AcceptedJobs, blockTests, jobCount, jobsIn, jobList, jobTable, jobsOutcome, readJobs}
 use Rattle.records.specs.declared.job.Job.{Job}
 use Rattle.records.specs.declared.judge.JobRule.the-variants.{Times}
-use Rattle.records.specs.declared.refusal.Refusal.{Refusal}
+use Rattle.records.specs.declared.refusal.Counted.the-variants.{Count}
 use Rattle.records.specs.declared.block.JobsRead.{JobsRead}
-use Rattle.records.specs.declared.block.JobsAnswer.the-variants.{Count, Refused}
-use Rattle.records.proofs.Outcomes.{stops, goes-on, gives, accepts-both}
+use Rattle.records.proofs.Outcomes.{gives, accepts-both}
 use Rattle.records.proofs.FixedWidth.{length-chunks}
 
 -- ---- an accepted block
@@ -83,21 +82,7 @@ old-block block zeros i = elim (decLe (suc i) (jobCount block)) [
 
 -- ---- after a call of read_jobs
 
-module _ (block : List ℕ) (r : JobsRead) (ensured : jobsOutcome r ≡ readJobs block) where
-  pub jobs-read : (n : ℕ) → r .answer ≡ Count n → Accepts (blockTests block) × (n ≡ jobCount block) × (r .table ≡ jobTable (jobList block))
-  unfolding readJobs
-  jobs-read n e = gives (blockTests block) (jobCount block) (jobTable (jobList block)) (jobTable []) (jobsOutcome r) n ensured (ap jobsAnswer e)
-
-  -- Its answer decides what a call with more tests comes to.
-  module _ {A B : Type 0} (later : Tests) (values : A) (new old : B) where
-    pub jobs-turned : (refusal : Refusal) → r .answer ≡ Refused refusal → outcome (blockTests block ++ later) values new old ≡ turned refusal old
-    unfolding readJobs
-    jobs-turned refusal e =
-        stops (jobCount block) (jobTable (jobList block)) (jobTable []) values new old later (blockTests block) (number refusal)
-        (ap (λ (x : Answer ℕ × List Job). x .0) (sym ensured) ∙ ap jobsAnswer e)
-
-    pub jobs-on : (n : ℕ) → r .answer ≡ Count n → outcome (blockTests block ++ later) values new old ≡ outcome later values new old
-    unfolding readJobs
-    jobs-on n e =
-        goes-on (jobCount block) (jobTable (jobList block)) (jobTable []) values new old later (blockTests block) n
-        (ap (λ (x : Answer ℕ × List Job). x .0) (sym ensured) ∙ ap jobsAnswer e)
+pub jobs-read : (block : List ℕ) (r : JobsRead) → jobsOutcome r ≡ readJobs block → (n : ℕ) → r .answer ≡ Count n
+    → Accepts (blockTests block) × (n ≡ jobCount block) × (r .table ≡ jobTable (jobList block))
+unfolding readJobs
+jobs-read block r ensured n e = gives (blockTests block) (jobCount block) (jobTable (jobList block)) (jobTable []) (jobsOutcome r) n ensured (ap counted e)

@@ -2,21 +2,20 @@
 -- writer makes of what was read". Assumes nothing.
 use Prim.Native.Nat.{ℕ, _*_, _%_, _≤_}
 use mathlib.Core.Path.{_≡_, sym, ap, ap₂, subst, _∙_}
-use mathlib.Core.List.{List, [], _∷_, _++_}
+use mathlib.Core.List.{List, [], _++_}
 use native.Mathlib.Omega.{arith}
-use lib.Dec.{leb}
 use lib.ListN.{length, take, drop}
 use lib.Seq.{take-at, length-take-le, take-all}
 use borrow.Author.Tests.{le-leb, eq-eqb, leb-true, eqb-true}
 use Rattle.records.specs.Limits.{mostJobs}
-use Rattle.records.specs.Records.{AllBytes}
+use Rattle.records.specs.Records.{AllBytes, written, roomTests}
 use Rattle.records.specs.Refusals.{Answer, given, Tests, Accepts}
-use Rattle.records.specs.Jobs.{jobSize, jobOf, jobBytes, blankJob, countTests, jobTests, tableTests, AcceptedJobs, blockTests, jobCount, jobsIn, jobList, jobTable, readJobs, bytesOf, writeTests, writeJobs}
+use Rattle.records.specs.Jobs.{jobSize, jobOf, jobBytes, blankJob, jobTests, tableTests, AcceptedJobs, blockTests, jobCount, jobsIn, jobList, jobTable, readJobs, bytesOf, writeTests, writeJobs}
 use Rattle.records.specs.declared.job.Job.{Job}
 use Rattle.records.proofs.Outcomes.{accepts, accepts-both, accepts-first}
 use Rattle.records.proofs.FixedWidth.{length-flat, length-chunks, take-table, chunks-flat, flat-chunks}
 use Rattle.records.proofs.JobRecords.{job-width, job-back, Known, job-again}
-use Rattle.records.proofs.JobTests.{tests-take, tests-table}
+use Rattle.records.proofs.JobTests.{accepted-take, tests-table}
 
 -- The bytes of an accepted list of jobs are accepted, and read back to it.
 module _ (jobs : List Job) (ok : AcceptedJobs jobs) where
@@ -59,13 +58,11 @@ read-written n jobs output h ok =
     let list = take n jobs in
     let m : length list ≡ n = length-take-le n jobs h in
     let l : length (bytesOf list) ≡ jobSize * n = length-flat jobBytes jobSize job-width list ∙ ap (λ (k : ℕ). jobSize * k) m in
-    let table = accepts-first (tableTests n jobs) ((leb (jobSize * n) (length output), 12) ∷ []) ok in
-    let t : tableTests (length list) list ≡ tableTests n jobs = ap (λ (k : ℕ). tableTests k list) m ∙ ap (λ (tests : Tests). countTests n ++ tests) (tests-take n jobs) in
-    let fine : AcceptedJobs list = subst (λ (tests : Tests). Accepts tests) (sym t) table in
-    let new : writeJobs n jobs output .1 ≡ bytesOf list ++ drop (jobSize * n) output =
-    ap (λ (x : Answer ℕ × List ℕ). x .1) (accepts (jobSize * n) (bytesOf list ++ drop (jobSize * n) output) output (writeTests n jobs (length output)) ok) in
+    let fine : AcceptedJobs list = accepted-take n jobs h (accepts-first (tableTests n jobs) (roomTests (jobSize * n) (length output)) ok) in
+    let new : writeJobs n jobs output .1 ≡ written jobSize jobBytes list output =
+    ap (λ (x : Answer ℕ × List ℕ). x .1) (accepts (jobSize * n) (written jobSize jobBytes list output) output (writeTests n jobs (length output)) ok) in
     ap (λ (x : List ℕ). readJobs (take (jobSize * n) x)) new
-    ∙ ap readJobs (take-at (bytesOf list) (drop (jobSize * n) output) (jobSize * n) l)
+    ∙ ap readJobs (take-at (bytesOf list) (drop (jobSize * length list) output) (jobSize * n) l)
     ∙ read-bytes list fine
     ∙ ap (λ (k : ℕ). (given k, jobTable list)) m
 
@@ -84,10 +81,11 @@ write-read block output bytes fit ok =
     let known : Known n block = record { room = omega arith; bytes = bytes } in
     let same : bytesOf jobs ≡ block = flat-chunks jobSize jobBytes jobOf Known job-again n block known ∙ take-all (jobSize * n) block (omega arith) in
     let tests : Accepts (jobTests n (jobTable jobs)) = subst (λ (t : Tests). Accepts t) (sym (tests-table n jobs)) (ok .1 .1 .1) in
-    let room : Tests = (leb (jobSize * n) (length output), 12) ∷ [] in
+    let room = roomTests (jobSize * n) (length output) in
     let all : Accepts (writeTests n (jobTable jobs) (length output)) =
     accepts-both (tableTests n (jobTable jobs)) room (le-leb 1 n (omega arith), (le-leb n mostJobs (omega arith), tests)) (le-leb (jobSize * n) (length output) (omega arith), tt) in
     ap (λ (x : List Job). writeJobs n x output) (ap (λ (x : Answer ℕ × List Job). x .1) (accepts n (jobTable jobs) (jobTable []) (blockTests block) ok))
-    ∙ accepts (jobSize * n) (bytesOf (take n (jobTable jobs)) ++ drop (jobSize * n) output) output (writeTests n (jobTable jobs) (length output)) all
-    ∙ ap (λ (x : List Job). (given (jobSize * n), bytesOf x ++ drop (jobSize * n) output)) list
+    ∙ accepts (jobSize * n) (written jobSize jobBytes (take n (jobTable jobs)) output) output (writeTests n (jobTable jobs) (length output)) all
+    ∙ ap (λ (x : List Job). (given (jobSize * n), written jobSize jobBytes x output)) list
+    ∙ ap (λ (k : ℕ). (given (jobSize * n), bytesOf jobs ++ drop (jobSize * k) output)) (length-chunks jobSize jobOf n block)
     ∙ ap₂ (λ (k : ℕ) (x : List ℕ). (given k, x ++ drop k output)) size same

@@ -3,24 +3,18 @@ use Prim.Native.Nat.{ℕ, zero, suc, _+_, _*_, _/_, _%_}
 use mathlib.Core.List.{List, [], _∷_, _++_}
 use mathlib.Core.Bool.{Bool, _&&_}
 use mathlib.Core.Path.{_≡_}
-use lib.ListN.{length, getD, take, drop}
+use lib.ListN.{length, getD, take}
 use lib.Dec.{ltb, leb, eqb}
 use Rattle.sets.specs.Places.{every}
 use Rattle.records.specs.Limits.{longestPeriod, longestDeadline, mostJobs}
-use Rattle.records.specs.Refusals.{Answer, refused, given, number, Tests, outcome, Accepts}
-use Rattle.records.specs.Records.{word, wordBytes, flat, chunks, table}
-use Rattle.records.specs.declared.refusal.Refusal.{Refusal}
-use Rattle.records.specs.declared.refusal.Refusal.the-variants.{JobCount}
+use Rattle.records.specs.Refusals.{Answer, refused, given, number, Tests, outcome, counted, Accepts}
+use Rattle.records.specs.Records.{word, wordBytes, flat, chunks, table, written, roomTests}
 use Rattle.records.specs.declared.job.Job.{Job}
 use Rattle.records.specs.declared.job.NewJob.{NewJob}
-use Rattle.records.specs.declared.job.NewJob.the-variants.{Made, NotMade}
+use Rattle.records.specs.declared.job.NewJob.the-variants.{Made, Refused}
 use Rattle.records.specs.declared.judge.JobRule.{JobRule}
 use Rattle.records.specs.declared.judge.JobRule.the-variants.{Id, Order, Times}
-use Rattle.records.specs.declared.block.JobsAnswer.{JobsAnswer}
-use Rattle.records.specs.declared.block.JobsAnswer.the-variants.{Count, Refused}
 use Rattle.records.specs.declared.block.JobsRead.{JobsRead}
-use Rattle.records.specs.declared.block.Wrote.{Wrote}
-use Rattle.records.specs.declared.block.Wrote.the-variants.{Bytes, NotWritten}
 
 -- ---- one record
 
@@ -101,7 +95,7 @@ newJobTests id cost period deadline = (leb 1 id, 2) ∷ (timesOk cost period dea
 -- What Job::new answers, in 01's numbers and values.
 abbrev pub newJobAnswer : NewJob → Answer Job
 newJobAnswer (Made job) = given job
-newJobAnswer (NotMade refusal) = refused (number refusal)
+newJobAnswer (Refused refusal) = refused (number refusal)
 
 -- ---- reading
 
@@ -127,49 +121,24 @@ blockTests block = sizeTests (length block) ++ jobTests (jobCount block) (jobLis
 abbrev pub jobTable : List Job → List Job
 jobTable jobs = table mostJobs blankJob jobs
 
--- What read_jobs answers, in 01's numbers and values: the number of jobs.
-abbrev pub jobsAnswer : JobsAnswer → Answer ℕ
-jobsAnswer (Count n) = given n
-jobsAnswer (Refused refusal) = refused (number refusal)
-
+-- What read_jobs answers, in 01's numbers and values: the number of jobs; and the table.
 abbrev pub jobsOutcome : JobsRead → Answer ℕ × List Job
-jobsOutcome r = (jobsAnswer (r .answer), r .table)
+jobsOutcome r = (counted (r .answer), r .table)
 
 -- The outcome of read_jobs: the number of jobs, and the table beside it.
 unfoldable pub readJobs : List ℕ → Answer ℕ × List Job
 readJobs block = outcome (blockTests block) (jobCount block) (jobTable (jobList block)) (jobTable [])
 
--- The refusal of an answer; JobCount where there is none.
-abbrev pub refusalOf : JobsAnswer → Refusal
-refusalOf (Count n) = JobCount
-refusalOf (Refused refusal) = refusal
-
 -- ---- writing
 
+-- The bytes of a list of jobs.
 abbrev pub bytesOf : List Job → List ℕ
 bytesOf jobs = flat jobBytes jobs
 
--- The bytes of n jobs of a table, and the rest of the output.
-abbrev pub jobsWritten : ℕ → List Job → List ℕ → List ℕ
-jobsWritten n jobs output = bytesOf (take n jobs) ++ drop (jobSize * n) output
-
--- What a writer answers, in 01's numbers and values: the number of bytes.
-abbrev pub wroteAnswer : Wrote → Answer ℕ
-wroteAnswer (Bytes n) = given n
-wroteAnswer (NotWritten refusal) = refused (number refusal)
-
--- Refusal 12 of an output of `room` bytes for n jobs.
-abbrev pub roomTests : ℕ → ℕ → Tests
-roomTests n room = (leb (jobSize * n) room, 12) ∷ []
-
--- The outcome of write_records, which judges the count and the room alone: the number of bytes, and the output at exit.
-unfoldable pub writeRecords : ℕ → List Job → List ℕ → Answer ℕ × List ℕ
-writeRecords n jobs output = outcome (countTests n ++ roomTests n (length output)) (jobSize * n) (jobsWritten n jobs output) output
-
 -- Refusals 1, 2, 3, 5 and 12 of a table of n jobs and an output of `room` bytes.
 abbrev pub writeTests : ℕ → List Job → ℕ → Tests
-writeTests n jobs room = tableTests n jobs ++ roomTests n room
+writeTests n jobs room = tableTests n jobs ++ roomTests (jobSize * n) room
 
 -- The outcome of write_jobs: the number of bytes, and the output at exit.
 unfoldable pub writeJobs : ℕ → List Job → List ℕ → Answer ℕ × List ℕ
-writeJobs n jobs output = outcome (writeTests n jobs (length output)) (jobSize * n) (jobsWritten n jobs output) output
+writeJobs n jobs output = outcome (writeTests n jobs (length output)) (jobSize * n) (written jobSize jobBytes (take n jobs) output) output

@@ -3,3 +3,4 @@ pub mod Refusals
 pub mod Records
 pub mod Jobs
 pub mod Ranges
+pub mod Calls

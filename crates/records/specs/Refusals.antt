@@ -7,7 +7,9 @@ use mathlib.Core.Path.{_≡_}
 use Rattle.records.specs.declared.refusal.Refusal.{Refusal}
 use Rattle.records.specs.declared.refusal.Refusal.the-variants.{JobCount, JobId, IdOrder, Place, JobTimes, QuantumRange, ConfigurationSize, ConfigurationIds, RecordShape, LevelSharing, NotPlaced, OutputLength}
 use Rattle.records.specs.declared.refusal.Verdict.{Verdict}
-use Rattle.records.specs.declared.refusal.Verdict.the-variants.{Accepted, Turned}
+use Rattle.records.specs.declared.refusal.Verdict.the-variants.{Accepted, Refused as NotAccepted}
+use Rattle.records.specs.declared.refusal.Counted.{Counted}
+use Rattle.records.specs.declared.refusal.Counted.the-variants.{Count, Refused}
 
 -- The number of each refusal.
 abbrev pub number : Refusal → ℕ
@@ -52,7 +54,22 @@ abbrev pub Accepts : Tests → Type 0
 Accepts [] = Unit {0}
 Accepts (t ∷ tests) = (t .0 ≡ true) × Accepts tests
 
--- What a function that only judges answers, in 01's numbers.
+-- ---- answers as the code has them, in 01's numbers and values
+
+-- No value.
 abbrev pub verdict : Verdict → Answer (Unit {0})
 verdict Accepted = given tt
-verdict (Turned refusal) = refused (number refusal)
+verdict (NotAccepted refusal) = refused (number refusal)
+
+-- A count, and what stands beside it: the value of that count.
+abbrev pub handed : {A : Type 0} → Counted → (ℕ → A) → Answer A
+handed (Count n) value = given (value n)
+handed (Refused refusal) value = refused (number refusal)
+
+abbrev pub counted : Counted → Answer ℕ
+counted r = handed r (λ n. n)
+
+-- The refusal of an answer; JobCount where there is none.
+abbrev pub refusalOf : Counted → Refusal
+refusalOf (Count n) = JobCount
+refusalOf (Refused refusal) = refusal

@@ -1,97 +1,83 @@
 // Reads and writes job blocks.
 ghost use mathlib.Core.Path.{_≡_};
 ghost use mathlib.Core.List.{[]};
-ghost use Rattle.records.specs.Refusals.{turned};
-ghost use Rattle.records.specs.Jobs.{jobTable, jobsOutcome, readJobs, refusalOf, wroteAnswer, writeRecords, writeJobs};
+ghost use Prim.Native.Nat.{min};
+ghost use lib.ListN.{take};
+ghost use Rattle.records.specs.Limits.{mostJobs};
+ghost use Rattle.records.specs.Refusals.{turned, counted};
+ghost use Rattle.records.specs.Records.{writeRecords};
+ghost use Rattle.records.specs.Jobs.{jobSize, jobBytes, jobCount, jobsIn, jobTable, jobsOutcome, readJobs, writeJobs};
 use crate::bytes;
 use crate::job::Job;
 use crate::judge;
+use crate::refusal::Counted;
 use crate::refusal::Refusal;
 use crate::refusal::Verdict;
 
-// What reading a job block answers: the number of jobs.
-pub enum JobsAnswer {
-    Count(usize),
-    Refused(Refusal),
-}
-
-// The answer, with the table beside it; the table is blank past the jobs, and whole where the block is refused.
+// The number of jobs, with the table beside it; the table is blank past the jobs, and whole where the block is refused.
 pub struct JobsRead {
-    pub answer: JobsAnswer,
+    pub answer: Counted,
     pub table: [Job; Job::MOST],
-}
-
-// What a writer answers: the number of bytes.
-pub enum Wrote {
-    Bytes(usize),
-    NotWritten(Refusal),
 }
 
 fn jobs_refused(refusal: Refusal) -> JobsRead
     ensures { λ r. ⌜ jobsOutcome r ≡ turned refusal (jobTable []) ⌝ }
 {
     JobsRead {
-        answer: JobsAnswer::Refused(refusal),
+        answer: Counted::Refused(refusal),
         table: [Job::BLANK; Job::MOST],
     }
 }
 
 // Reads a job block.
-pub fn read_jobs(block: &[u8]) -> JobsRead
-    ensures { λ r. ⌜ jobsOutcome r ≡ readJobs (now (block .entry)) ⌝ }
+pub fn read_jobs(jobs: &[u8]) -> JobsRead
+    ensures { λ r. ⌜ jobsOutcome r ≡ readJobs (now (jobs .entry)) ⌝ }
 {
-    let size = block.len();
+    let size = jobs.len();
     let sized = judge::judge_size(size);
-    if let Verdict::Turned(refusal) = sized {
+    if let Verdict::Refused(refusal) = sized {
         return jobs_refused(refusal);
     }
     let n = size / Job::SIZE;
-    let table = bytes::decode(block, n);
+    let table = bytes::decode(jobs, n);
     let judged = judge::judge_jobs(table, n);
-    if let Verdict::Turned(refusal) = judged {
+    if let Verdict::Refused(refusal) = judged {
         return jobs_refused(refusal);
     }
     JobsRead {
-        answer: JobsAnswer::Count(n),
+        answer: Counted::Count(n),
         table,
     }
 }
 
-// The refusal of an answer; JobCount where there is none.
-pub fn refusal_of(answer: JobsAnswer) -> Refusal
-    ensures { λ r. ⌜ r ≡ refusalOf answer ⌝ }
+// The jobs of a block, which are not judged: its whole records, as far as a table has entries; blank past them.
+pub fn read_unjudged(jobs: &[u8]) -> [Job; Job::MOST]
+    ensures { λ r. ⌜ r ≡ jobTable (jobsIn (min (jobCount (now (jobs .entry))) mostJobs) (now (jobs .entry))) ⌝ }
 {
-    match answer {
-        JobsAnswer::Count(_) => Refusal::JobCount,
-        JobsAnswer::Refused(refusal) => refusal,
-    }
+    let count = Job::at_most(jobs.len() / Job::SIZE);
+    bytes::decode(jobs, count)
 }
 
-// Writes the first n jobs of a table, which are not judged: refusals 1 (on n) and 12.
-pub fn write_records(table: [Job; Job::MOST], n: usize, output: &mut [u8]) -> Wrote
-    ensures { λ r. ⌜ (wroteAnswer r, now (output .exit)) ≡ writeRecords n table (now (output .entry)) ⌝ }
+// Writes the first n jobs of a table, which are not judged: refusal 12.
+pub fn write_unjudged(table: [Job; Job::MOST], n: usize, output: &mut [u8]) -> Counted
+    ensures { λ r. ⌜ (counted r, now (output .exit)) ≡ writeRecords jobSize jobBytes (take n table) (now (output .entry)) ⌝ }
 {
-    if n < 1 {
-        return Wrote::NotWritten(Refusal::JobCount);
-    }
-    if Job::MOST < n {
-        return Wrote::NotWritten(Refusal::JobCount);
-    }
-    let size = Job::SIZE * n;
+    let count = Job::at_most(n);
+    let size = Job::SIZE * count;
     if output.len() < size {
-        return Wrote::NotWritten(Refusal::OutputLength);
+        return Counted::Refused(Refusal::OutputLength);
     }
-    bytes::encode(table, n, &mut *output);
-    Wrote::Bytes(size)
+    bytes::encode(table, count, &mut *output);
+    Counted::Count(size)
 }
 
 // Writes the first n jobs of a table as a job block.
-pub fn write_jobs(table: [Job; Job::MOST], n: usize, output: &mut [u8]) -> Wrote
-    ensures { λ r. ⌜ (wroteAnswer r, now (output .exit)) ≡ writeJobs n table (now (output .entry)) ⌝ }
+pub fn write_jobs(table: [Job; Job::MOST], n: usize, output: &mut [u8]) -> Counted
+    ensures { λ r. ⌜ (counted r, now (output .exit)) ≡ writeJobs n table (now (output .entry)) ⌝ }
 {
     let judged = judge::judge_table(table, n);
-    if let Verdict::Turned(refusal) = judged {
-        return Wrote::NotWritten(refusal);
+    if let Verdict::Refused(refusal) = judged {
+        return Counted::Refused(refusal);
     }
-    write_records(table, n, &mut *output)
+    write_unjudged(table, n, &mut *output)
 }

@@ -4,7 +4,8 @@ ghost use mathlib.Core.List.{_++_};
 ghost use Prim.Native.Nat.{_*_, _≤_};
 ghost use lib.ListN.{length, take, drop};
 ghost use Rattle.records.specs.Limits.{mostJobs};
-ghost use Rattle.records.specs.Jobs.{jobSize, jobOf, jobBytes, jobsIn, jobTable, bytesOf};
+ghost use Rattle.records.specs.Records.{written};
+ghost use Rattle.records.specs.Jobs.{jobSize, jobOf, jobBytes, jobsIn, jobTable};
 use crate::job::Job;
 use crate::word::word_of;
 
@@ -54,7 +55,7 @@ fn put_job(output: &mut [u8], job: Job)
 // Writes the first n jobs of a table.
 pub(crate) fn encode(table: [Job; Job::MOST], n: usize, output: &mut [u8])
     requires { ⌜ (n ≤ mostJobs) × (jobSize * n ≤ length (now output)) ⌝ }
-    ensures { λ _. ⌜ now (output .exit) ≡ bytesOf (take n table) ++ drop (jobSize * n) (now (output .entry)) ⌝ }
+    ensures { λ _. ⌜ now (output .exit) ≡ written jobSize jobBytes (take n table) (now (output .entry)) ⌝ }
 {
     let mut i = 0;
     while i < n {

@@ -1,5 +1,7 @@
 // A job and its limits.
 ghost use mathlib.Core.Path.{_≡_};
+ghost use Prim.Native.Nat.{min};
+ghost use Rattle.records.specs.Limits.{mostJobs};
 ghost use Rattle.records.specs.Refusals.{answer};
 ghost use Rattle.records.specs.Jobs.{timesOk, newJobTests, newJobAnswer};
 use crate::refusal::Refusal;
@@ -16,7 +18,7 @@ pub struct Job {
 // What making a job answers.
 pub enum NewJob {
     Made(Job),
-    NotMade(Refusal),
+    Refused(Refusal),
 }
 
 impl Job {
@@ -40,6 +42,16 @@ impl Job {
         period: 0,
         deadline: 0,
     };
+
+    // How many entries of a table a count takes: all of them, where it is past their number.
+    pub fn at_most(count: usize) -> usize
+        ensures { λ r. ⌜ r ≡ min count mostJobs ⌝ }
+    {
+        if Job::MOST < count {
+            return Job::MOST;
+        }
+        count
+    }
 
     // Whether refusal 5 lets these numbers by.
     pub fn times_ok(cost: u16, period: u16, deadline: u16) -> bool
@@ -65,10 +77,10 @@ impl Job {
         ensures { λ r. ⌜ newJobAnswer r ≡ answer (newJobTests id cost period deadline) (record { id = id; delay = delay; cost = cost; period = period; deadline = deadline }) ⌝ }
     {
         if id < 1 {
-            return NewJob::NotMade(Refusal::JobId);
+            return NewJob::Refused(Refusal::JobId);
         }
         if !Job::times_ok(cost, period, deadline) {
-            return NewJob::NotMade(Refusal::JobTimes);
+            return NewJob::Refused(Refusal::JobTimes);
         }
         NewJob::Made(Job {
             id,

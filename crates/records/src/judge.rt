@@ -1,11 +1,14 @@
-// Refusals 1, 2, 3 and 5 of job blocks and tables.
+// Refusals 1, 2, 3 and 5 of job blocks and tables, and 6 after them.
 ghost use mathlib.Core.Path.{_≡_};
 ghost use Prim.Native.Nat.{_≤_};
 ghost use Rattle.sets.specs.Places.{every};
 ghost use Rattle.records.specs.Limits.{mostJobs};
 ghost use Rattle.records.specs.Refusals.{verdict, answer};
 ghost use Rattle.records.specs.Jobs.{jobOk, jobOkAt, jobTests, sizeTests, tableTests};
+ghost use Rattle.records.specs.Calls.{questionTests};
 use crate::job::Job;
+use crate::range::NewRange;
+use crate::range::Range;
 use crate::refusal::Refusal;
 use crate::refusal::Verdict;
 
@@ -51,13 +54,13 @@ pub(crate) fn judge_jobs(table: [Job; Job::MOST], n: usize) -> Verdict
     ensures { λ r. ⌜ verdict r ≡ answer (jobTests n table) tt ⌝ }
 {
     if !all_ok(JobRule::Id, table, n) {
-        return Verdict::Turned(Refusal::JobId);
+        return Verdict::Refused(Refusal::JobId);
     }
     if !all_ok(JobRule::Order, table, n) {
-        return Verdict::Turned(Refusal::IdOrder);
+        return Verdict::Refused(Refusal::IdOrder);
     }
     if !all_ok(JobRule::Times, table, n) {
-        return Verdict::Turned(Refusal::JobTimes);
+        return Verdict::Refused(Refusal::JobTimes);
     }
     Verdict::Accepted
 }
@@ -67,26 +70,41 @@ pub(crate) fn judge_size(size: usize) -> Verdict
     ensures { λ r. ⌜ verdict r ≡ answer (sizeTests size) tt ⌝ }
 {
     if size < 1 {
-        return Verdict::Turned(Refusal::JobCount);
+        return Verdict::Refused(Refusal::JobCount);
     }
     if Job::MOST * Job::SIZE < size {
-        return Verdict::Turned(Refusal::JobCount);
+        return Verdict::Refused(Refusal::JobCount);
     }
     if size % Job::SIZE != 0 {
-        return Verdict::Turned(Refusal::JobCount);
+        return Verdict::Refused(Refusal::JobCount);
     }
     Verdict::Accepted
 }
 
 // Judges a table of n jobs: refusals 1, 2, 3 and 5.
-pub(crate) fn judge_table(table: [Job; Job::MOST], n: usize) -> Verdict
+pub fn judge_table(table: [Job; Job::MOST], n: usize) -> Verdict
     ensures { λ r. ⌜ verdict r ≡ answer (tableTests n table) tt ⌝ }
 {
     if n < 1 {
-        return Verdict::Turned(Refusal::JobCount);
+        return Verdict::Refused(Refusal::JobCount);
     }
     if Job::MOST < n {
-        return Verdict::Turned(Refusal::JobCount);
+        return Verdict::Refused(Refusal::JobCount);
     }
     judge_jobs(table, n)
+}
+
+// Judges a table of n jobs and a range: refusals 1, 2, 3, 5 and 6.
+pub fn judge_question(table: [Job; Job::MOST], n: usize, range: Range) -> Verdict
+    ensures { λ r. ⌜ verdict r ≡ answer (questionTests n table range) tt ⌝ }
+{
+    let judged = judge_table(table, n);
+    if let Verdict::Refused(_) = judged {
+        return judged;
+    }
+    let made = Range::new(range.low, range.high);
+    match made {
+        NewRange::Made(_) => Verdict::Accepted,
+        NewRange::Refused(refusal) => Verdict::Refused(refusal),
+    }
 }

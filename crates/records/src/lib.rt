@@ -1,8 +1,9 @@
-// Refusals, jobs, ranges of quanta and the job block.
+// Refusals, jobs, ranges of quanta, the job block, and what a call asks.
 pub mod block;
 mod bytes;
+pub mod call;
 pub mod job;
-mod judge;
+pub mod judge;
 pub mod range;
 pub mod refusal;
 pub mod word;

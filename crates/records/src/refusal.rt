@@ -1,6 +1,6 @@
 // Why a call is turned down.
 ghost use mathlib.Core.Path.{_≡_};
-ghost use Rattle.records.specs.Refusals.{number};
+ghost use Rattle.records.specs.Refusals.{number, refusalOf};
 
 // A case for each line of 01's list.
 pub enum Refusal {
@@ -40,8 +40,24 @@ impl Refusal {
     }
 }
 
-// The answer of a function that only judges.
+// The answer of a function that gives no value.
 pub enum Verdict {
     Accepted,
-    Turned(Refusal),
+    Refused(Refusal),
+}
+
+// The answer of a function that gives a count: of jobs, of records or of bytes.
+pub enum Counted {
+    Count(usize),
+    Refused(Refusal),
+}
+
+// The refusal of an answer; JobCount where there is none.
+pub fn refusal_of(answer: Counted) -> Refusal
+    ensures { λ r. ⌜ r ≡ refusalOf answer ⌝ }
+{
+    match answer {
+        Counted::Count(_) => Refusal::JobCount,
+        Counted::Refused(refusal) => refusal,
+    }
 }

@@ -1,19 +1,15 @@
 // The key program's text: a line per job, and how many are placed.
 ghost use mathlib.Core.Path.{_≡_};
-ghost use Prim.Native.Nat.{_+_, _*_, _≤_, _<_};
+ghost use Prim.Native.Nat.{_+_, _≤_, _<_};
 ghost use lib.ListN.{length};
 ghost use lib.Seq.{sets};
 ghost use Rattle.records.specs.Limits.{mostJobs};
-ghost use Rattle.configuration.specs.Settings.{settingSize};
-ghost use Rattle.marker.specs.Marks.{boundSize};
 ghost use Rattle.text.specs.Lines.{line, rowsTo, Wrote};
-ghost use Rattle.text.specs.Keys.{bytesLine, bytesText, lastLine, refusedText, keyOf};
+ghost use Rattle.text.specs.Keys.{jobLine, tableText, lastLine, refusedText, keyOf};
 use crate::buffer;
 use configuration::setting::Setting;
-use marker::block::BOUND_SIZE;
-use planner::PlanAnswer;
 use records::job::Job;
-use records::word::word_of;
+use records::refusal::Counted;
 
 // The size of a buffer that holds every key.
 pub const SIZE: usize = 512;
@@ -40,28 +36,37 @@ fn put_line(
 }
 
 // The line of the job at place k.
-fn put_job(output: &mut [u8], at: usize, settings: &[u8], bounds: &[u8], k: usize) -> usize
-    requires { ⌜ (at + 55 ≤ length (now output)) × (k < mostJobs) × (settingSize * (k + 1) ≤ length (now settings)) × (boundSize * (k + 1) ≤ length (now bounds)) ⌝ }
-    ensures { λ r. ⌜ Wrote 55 (now (output .entry)) (now (output .exit)) at r (bytesLine (now (settings .entry)) (now (bounds .entry)) k) ⌝ }
+fn put_job(
+    output: &mut [u8],
+    at: usize,
+    settings: [Setting; Job::MOST],
+    bounds: [u16; Job::MOST],
+    k: usize,
+) -> usize
+    requires { ⌜ (at + 55 ≤ length (now output)) × (k < mostJobs) ⌝ }
+    ensures { λ r. ⌜ Wrote 55 (now (output .entry)) (now (output .exit)) at r (jobLine settings bounds k) ⌝ }
 {
-    let s = Setting::SIZE * k;
-    let b = BOUND_SIZE * k;
-    let bound = word_of(bounds[b], bounds[b + 1]);
+    let setting = settings[k];
     put_line(
         output,
         at,
-        settings[s],
-        settings[s + 1],
-        settings[s + 2],
-        settings[s + 3],
-        bound,
+        setting.id,
+        setting.level,
+        setting.policy,
+        setting.quantum,
+        bounds[k],
     )
 }
 
 // The lines of n jobs, from the start of the output on.
-fn put_jobs(output: &mut [u8], settings: &[u8], bounds: &[u8], n: usize) -> usize
-    requires { ⌜ (n ≤ mostJobs) × (440 ≤ length (now output)) × (settingSize * n ≤ length (now settings)) × (boundSize * n ≤ length (now bounds)) ⌝ }
-    ensures { λ r. ⌜ Wrote 440 (now (output .entry)) (now (output .exit)) 0 r (rowsTo (bytesLine (now (settings .entry)) (now (bounds .entry))) n) ⌝ }
+fn put_jobs(
+    output: &mut [u8],
+    settings: [Setting; Job::MOST],
+    bounds: [u16; Job::MOST],
+    n: usize,
+) -> usize
+    requires { ⌜ (n ≤ mostJobs) × (440 ≤ length (now output)) ⌝ }
+    ensures { λ r. ⌜ Wrote 440 (now (output .entry)) (now (output .exit)) 0 r (rowsTo (jobLine settings bounds) n) ⌝ }
 {
     let mut at = 0;
     let mut k = 0;
@@ -84,10 +89,16 @@ fn put_last(output: &mut [u8], at: usize, placed: u32, n: usize) -> usize
     buffer::put_byte(output, after_n, b'\n')
 }
 
-// The key of n jobs from the planner's outputs.
-fn put_key(output: &mut [u8], settings: &[u8], bounds: &[u8], placed: u32, n: usize) -> usize
-    requires { ⌜ (n ≤ mostJobs) × (472 ≤ length (now output)) × (settingSize * n ≤ length (now settings)) × (boundSize * n ≤ length (now bounds)) ⌝ }
-    ensures { λ r. ⌜ Wrote 472 (now (output .entry)) (now (output .exit)) 0 r (bytesText (now (settings .entry)) (now (bounds .entry)) placed n) ⌝ }
+// The key of n jobs.
+fn put_key(
+    output: &mut [u8],
+    settings: [Setting; Job::MOST],
+    bounds: [u16; Job::MOST],
+    placed: u32,
+    n: usize,
+) -> usize
+    requires { ⌜ (n ≤ mostJobs) × (472 ≤ length (now output)) ⌝ }
+    ensures { λ r. ⌜ Wrote 472 (now (output .entry)) (now (output .exit)) 0 r (tableText settings bounds placed n) ⌝ }
 {
     let at = put_jobs(output, settings, bounds, n);
     put_last(output, at, placed, n)
@@ -103,18 +114,27 @@ fn put_refused(output: &mut [u8], number: u8) -> usize
     buffer::put_byte(output, after_number, b'\n')
 }
 
-// The text for a job block and a range, at the start of the output; it gives the text's length.
-pub fn key(block: &[u8], low: u8, high: u8, output: &mut [u8; SIZE]) -> usize
-    ensures { λ r. ⌜ (r ≤ length (now (output .exit))) × (r ≡ length (keyOf (now (block .entry)) low high)) × (now (output .exit) ≡ sets (now (output .entry)) 0 (keyOf (now (block .entry)) low high)) ⌝ }
+// The text for a job block and a range, at the start of the output; it gives the text's length. It is made of the plan's tables: the
+// numbers stand there as they are printed, while the entry's outputs would have to be read again.
+pub fn key(jobs: &[u8], low: u8, high: u8, output: &mut [u8; SIZE]) -> usize
+    ensures { λ r. ⌜ (r ≤ length (now (output .exit))) × (r ≡ length (keyOf (now (jobs .entry)) low high)) × (now (output .exit) ≡ sets (now (output .entry)) 0 (keyOf (now (jobs .entry)) low high)) ⌝ }
 {
-    let mut settings = [0u8; Setting::SIZE * Job::MOST];
-    let mut bounds = [0u8; BOUND_SIZE * Job::MOST];
-    let answer = planner::plan(block, low, high, &mut settings, &mut bounds);
-    match answer {
-        PlanAnswer::Planned(placed, _) => {
-            let n = block.len() / Job::SIZE;
-            put_key(output, &settings, &bounds, sets::size(placed), n)
+    let call = records::call::read_call(jobs, low, high);
+    let answer = call.answer;
+    let Counted::Count(n) = answer else {
+        let refusal = records::refusal::refusal_of(answer);
+        return put_refused(output, refusal.number());
+    };
+    let table = call.table;
+    let range = call.range;
+    let plan = planner::table::plan_table(table, n, range);
+    let planned = plan.answer;
+    match planned {
+        Counted::Count(count) => {
+            let settings = plan.settings;
+            let bounds = plan.bounds;
+            put_key(output, settings, bounds, sets::size(plan.placed), count)
         }
-        PlanAnswer::Refused(refusal) => put_refused(output, refusal.number()),
+        Counted::Refused(refusal) => put_refused(output, refusal.number()),
     }
 }

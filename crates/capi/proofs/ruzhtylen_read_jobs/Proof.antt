@@ -3,10 +3,9 @@ use mathlib.Core.Path.{sym, ap, _∙_}
 use mathlib.Core.List.{List}
 use native.Mathlib.Omega.{arith}
 use Rattle.records.specs.Limits.{mostJobs}
-use Rattle.records.specs.Refusals.{Answer}
-use Rattle.records.specs.Jobs.{jobsAnswer}
+use Rattle.records.specs.Refusals.{Answer, counted}
 use Rattle.records.specs.declared.job.Job.{Job}
-use Rattle.records.specs.declared.block.JobsAnswer.{JobsAnswer}
+use Rattle.records.specs.declared.refusal.Counted.{Counted}
 use Rattle.records.proofs.Reading.{jobs-read, count-most}
 use Rattle.capi.specs.Words.{word, countValue}
 use borrow.Author.Needs.{needs}
@@ -44,12 +43,12 @@ cast-result-2 c = search needs
 returns : tie.Need-returns
 returns c =
     let read = c .before .before .before in
-    sym (ap (λ (a : JobsAnswer). word countValue (jobsAnswer a)) (c .before .answer .given .1)) ∙ ap (λ (o : Answer ℕ × List Job). word countValue (o .0)) (read .read-jobs .ensures)
+    sym (ap (λ (a : Counted). word countValue (counted a)) (c .before .answer .given .1)) ∙ ap (λ (o : Answer ℕ × List Job). word countValue (o .0)) (read .read-jobs .ensures)
 
 returns-2 : tie.Need-returns-2
 returns-2 c =
     let read = c .before .before .before .before in
-    c .number .ensures ∙ sym (ap (λ (a : JobsAnswer). word countValue (jobsAnswer a)) (c .before .before .answer2 .given .1)) ∙ ap (λ (o : Answer ℕ × List Job). word countValue (o .0)) (read .read-jobs .ensures)
+    c .number .ensures ∙ sym (ap (λ (a : Counted). word countValue (counted a)) (c .before .before .answer2 .given .1)) ∙ ap (λ (o : Answer ℕ × List Job). word countValue (o .0)) (read .read-jobs .ensures)
 
 pub ruzhtylen-read-jobs-spec : {M : Type 1} → statement M
 ruzhtylen-read-jobs-spec =

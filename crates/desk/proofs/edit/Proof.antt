@@ -1,4 +1,4 @@
--- `desk::edit` meets its contract: a walk of its MIR, by hand. `judge` is called on the numbers; a `switch` reads the tag of its answer. Where it is `Done` the borrow is opened, one element is taken out of the row, three of its fields are stored to, and the borrow is closed at the table with the new job there.
+-- `desk::edit` meets its contract: a walk of its MIR, by hand. `judge` is called on the numbers; a `switch` reads the tag of its answer. Where it is `Accepted` the borrow is opened, one element is taken out of the row, three of its fields are stored to, and the borrow is closed at the table with the new job there.
 -- All that the proof knows of `judge` is that it meets its contract. What follows the switch is shared by the two arms (`leaves`).
 -- Assumes nothing.
 use mathlib.Core.Path.{_≡_, refl, sym, ap, subst}
@@ -47,17 +47,17 @@ use denote.Triple.Walked.{says, Stays, stay-slice, stay-none, walkOf, AllGo, goe
 use denote.Exit.{yes}
 use denote.Triple.Clauses.{ensured, lasts}
 use Rattle.records.specs.declared.job.Job.{Job}
-use Rattle.desk.specs.declared.EditAnswer.{EditAnswer}
-use Rattle.desk.specs.declared.EditAnswer.the-variants.{Done, Refused}
-use Rattle.records.specs.Refusals.{Answer, number}
+use Rattle.records.specs.declared.refusal.Verdict.{Verdict}
+use Rattle.records.specs.declared.refusal.Verdict.the-variants.{Accepted, Refused}
+use Rattle.records.specs.Refusals.{Answer, number, verdict}
 use Rattle.records.specs.Jobs.{jobAt, blankJob}
-use Rattle.desk.specs.Edits.{editAnswer, judged, withTimes, editOutcome}
+use Rattle.desk.specs.Edits.{judged, withTimes, editOutcome}
 use Rattle.desk.proofs.Editing.{Within, edit-within, edit-done, edit-refused}
 use Rattle.desk.proofs.Numbers.{Fit, Numbers, numbers}
 use Rattle.records.proofs.job.Job as T
 use Rattle.records.proofs.job.Job.Laws as T′
-use Rattle.desk.proofs.EditAnswer as S
-use Rattle.desk.proofs.EditAnswer.Laws as S′
+use Rattle.records.proofs.refusal.Verdict as S
+use Rattle.records.proofs.refusal.Verdict.Laws as S′
 use Rattle.desk.proofs.judge as judge
 use Rattle.desk.proofs.judge.Symbol as judge-def
 use Rattle.desk.proofs.judge.Symbol.{name as #desk·judge}
@@ -72,7 +72,7 @@ use Rattle.desk.proofs.edit.Code.Mir as m
 abbrev J : RattleType
 J = T.the-row
 
-abbrev val : EditAnswer → Val
+abbrev val : Verdict → Val
 val = EL.val S.the-type S′.the-laws
 
 abbrev stayed : Stays (f.ended .signature .params) (f.ended .kept)
@@ -124,7 +124,7 @@ module _ {M : Type 1} (𝓤 : URA M) (H : Heap 𝓤) (A : Atoms 𝓤) (W : Given
   abbrev Lent : List Job → List (Item 𝓤) → List (Item 𝓤)
   Lent zs Γ = ‵ (fobs γ (codedHoleys J .code (heres J zs))) ∷ ‵ (fbor κ (Held J (length zs) b o γ)) ∷ ‵ (flft κ q) ∷ Γ
 
-  exits : (zs : List Job) (r : EditAnswer) (u : Val) → length zs ≡ length ys → (editAnswer r, zs) ≡ editOutcome ys i c t d → ent 𝓤 (⋆ 𝓤 H A (Lent zs (‵ (S.the-row .own r (u ∷ [])) ∷ []))) (Post u)
+  exits : (zs : List Job) (r : Verdict) (u : Val) → length zs ≡ length ys → (verdict r, zs) ≡ editOutcome ys i c t d → ent 𝓤 (⋆ 𝓤 H A (Lent zs (‵ (S.the-row .own r (u ∷ [])) ∷ []))) (Post u)
   exits zs r u len is =
       qed W (Lent zs (‵ (S.the-row .own r (u ∷ [])) ∷ [])) ∵
       suffices ! _ (ends-at 𝓤 H A f.ended stayed (f.clauses 𝓤 H A mem run) W (((κ, tt), (q, tt), tt, a, at), tt) u r (zs, (tt, (tt, (tt, (tt, tt))))) (len, (tt, (tt, (tt, (tt, tt)))))) $ says ! is $
@@ -142,15 +142,15 @@ module _ {M : Type 1} (𝓤 : URA M) (H : Heap 𝓤) (A : Atoms 𝓤) (W : Given
       qed W [] ∵ use0 W (‵ (Numbers i c t d)) (numbers 𝓤 H A W i c t d fit) $
       owned ! usize (Is usize) (uint-makes 𝓤 H A W w64) (length ys) _ (refl, room .0) $ fjoin ! $ nothing ! $ join ! $ frame ! $ done !
 
-  said : (r : EditAnswer) → ent 𝓤 (ensured 𝓤 H A judge.ended (judge.clauses 𝓤 H A mem run) tt (length ys, (i, (c, (t, (d, tt))))) tt r) (fact 𝓤 (editAnswer r ≡ found))
-  said r = exE 𝓤 _ (λ ws. snd∗ 𝓤 (sem 𝓤 H A (lasts judge.ended tt (length ys, (i, (c, (t, (d, tt))))) ws)) (fact 𝓤 (editAnswer r ≡ found)))
+  said : (r : Verdict) → ent 𝓤 (ensured 𝓤 H A judge.ended (judge.clauses 𝓤 H A mem run) tt (length ys, (i, (c, (t, (d, tt))))) tt r) (fact 𝓤 (verdict r ≡ found))
+  said r = exE 𝓤 _ (λ ws. snd∗ 𝓤 (sem 𝓤 H A (lasts judge.ended tt (length ys, (i, (c, (t, (d, tt))))) ws)) (fact 𝓤 (verdict r ≡ found)))
 
   module _ (C : Calls 𝓤 H) (Λ : Loops 𝓤 H) (l₀ l₁ l₂ l₃ l₄ l₅ l₆ l₇ l₈ l₉ l₁₀ : ℕ) where
     abbrev E : Env 𝓤 H
     E = (S′.mir, l₀) ∷ (slice, l₁) ∷ (tyInt w64, l₂) ∷ (tyInt w16, l₃) ∷ (tyInt w16, l₄) ∷ (tyInt w16, l₅) ∷ (S′.mir, l₆) ∷ (job, l₇) ∷ (tyInt w64, l₈) ∷ (tyInt w64, l₉) ∷ (tyPtr, l₁₀) ∷ []
 
     -- the locals once the answer r stands in `_6`, the last first
-    abbrev Locals : EditAnswer → List (Item 𝓤) → List (Item 𝓤)
+    abbrev Locals : Verdict → List (Item 𝓤) → List (Item 𝓤)
     Locals r Γ = bare tyPtr l₁₀ (bare (tyInt w64) l₉ (full (tyInt w64) l₈ (vint w64 (length ys)) (bare job l₇ (full S′.mir l₆ (val r)
         (full (tyInt w16) l₅ (vint w16 d) (full (tyInt w16) l₄ (vint w16 t) (full (tyInt w16) l₃ (vint w16 c) (full (tyInt w64) l₂ (vint w64 i) (full slice l₁ s (bare S′.mir l₀ Γ))))))))))
 
@@ -159,7 +159,7 @@ module _ {M : Type 1} (𝓤 : URA M) (H : Heap 𝓤) (A : Atoms 𝓤) (W : Given
     Then = anyQ (afterSeq 𝓤 H (Wp 𝓤 H C Λ E m.t-4 (atReturn 𝓤 H E Post)) (atReturn 𝓤 H E Post))
 
     -- what follows the switch: the answer is copied into the result, which is returned, and the locals are freed
-    leaves : (zs : List Job) (r : EditAnswer) → Is S.the-row r (val r ∷ []) → length zs ≡ length ys → (editAnswer r, zs) ≡ editOutcome ys i c t d
+    leaves : (zs : List Job) (r : Verdict) → Is S.the-row r (val r ∷ []) → length zs ≡ length ys → (verdict r, zs) ≡ editOutcome ys i c t d
         → Sq W (Lent zs (‵ (S.the-row .own r (val r ∷ [])) ∷ Locals r [])) (runs C Λ E m.t-4 (atRet E Post))
     leaves zs r g len is =
         assigns ! (of-opd ! (load ! (from ! (stop !)) (look ! 12 refl))) (from ! (stop !)) (init ! 24 refl (EL.lawful S.the-type S′.the-laws 𝓤 H A W tt .typed r _ g .0)) $
@@ -190,8 +190,8 @@ module _ {M : Type 1} (𝓤 : URA M) (H : Heap 𝓤) (A : Atoms 𝓤) (W : Given
     never-both : {X : Type 1} → _≡_ {A = ℕ} 0 1 → X
     never-both h = absurd (let z : ⊥ = omega arith in z)
 
-    matched : (r : EditAnswer) → Is S.the-row r (val r ∷ []) → editAnswer r ≡ found → Sq W (‵ (S.the-row .own r (val r ∷ [])) ∷ Locals r (Lent ys [])) (runs C Λ E m.s-3 Then)
-    matched Done g e =
+    matched : (r : Verdict) → Is S.the-row r (val r ∷ []) → verdict r ≡ found → Sq W (‵ (S.the-row .own r (val r ∷ [])) ∷ Locals r (Lent ys [])) (runs C Λ E m.s-3 Then)
+    matched Accepted g e =
         switches ! (load ! (from ! (vrt ! refl (fld ! refl (stop !)))) (look-tag ! 9 (whole !))) (
           (λ _.
               let ok = edit-within (length ys) i c t d (sym e) in
@@ -208,7 +208,7 @@ module _ {M : Type 1} (𝓤 : URA M) (H : Heap 𝓤) (A : Atoms 𝓤) (W : Given
               exec ! C Λ E m.t-4 (atRet E Post) $
               move ! (1 ∷ []) $ drop ! $ owned ! J (Is J) (LL.makes T.the-type T′.the-plain 𝓤 H A) j′ _ (made was) $ move ! (1 ∷ 0 ∷ []) $
               elem-put ! J fullShare ys i j′ (T′.lowered j′ ∷ []) b o (ok .within) $ closes-slice ! tt J ys zs (length-set ys i j′) b o $
-              forget ! 4 refl $ forget ! 6 refl $ forget ! 10 refl $ leaves zs Done g (length-set ys i j′) (sym (edit-done ys i c t d (sym e))))),
+              forget ! 4 refl $ forget ! 6 refl $ forget ! 10 refl $ leaves zs Accepted g (length-set ys i j′) (sym (edit-done ys i c t d (sym e))))),
           ((λ h. never-both h), (λ n. absurd (n .0 .1 refl))),
         )
     matched (Refused n) g e =
@@ -230,8 +230,8 @@ module _ {M : Type 1} (𝓤 : URA M) (H : Heap 𝓤) (A : Atoms 𝓤) (W : Given
         use0 W (raw (Judge 𝓤 H A mem run .pre to)) asks $
         calls-at ! fm (Judge 𝓤 H A mem run) known to (and-then ! (load ! (from ! (stop !)) (look ! 5 refl)) (and-then ! (load ! (from ! (stop !)) (look ! 17 refl)) (and-then ! (load ! (from ! (stop !)) (look ! 15 refl))
         (and-then ! (load ! (from ! (stop !)) (look ! 13 refl)) (and-then ! (load ! (from ! (stop !)) (look ! 11 refl)) (no-more !)))))) (λ u.
-        use1 W (later (some (λ (r : EditAnswer). (‵ ftrue ⊛ ‵ (S.the-row .own r (u ∷ []))) ⊛ raw (ensured 𝓤 H A judge.ended (judge.clauses 𝓤 H A mem run) tt (length ys, (i, (c, (t, (d, tt))))) tt r)))) (id⊢ 𝓤 _) $ await ! tt $ pick ! (λ r.
-        split ! $ move ! (1 ∷ []) $ use1 W (raw (fact 𝓤 (editAnswer r ≡ found))) (said r) $ heard ! (editAnswer r ≡ found) (λ e. split ! $ drop ! $
+        use1 W (later (some (λ (r : Verdict). (‵ ftrue ⊛ ‵ (S.the-row .own r (u ∷ []))) ⊛ raw (ensured 𝓤 H A judge.ended (judge.clauses 𝓤 H A mem run) tt (length ys, (i, (c, (t, (d, tt))))) tt r)))) (id⊢ 𝓤 _) $ await ! tt $ pick ! (λ r.
+        split ! $ move ! (1 ∷ []) $ use1 W (raw (fact 𝓤 (verdict r ≡ found))) (said r) $ heard ! (verdict r ≡ found) (λ e. split ! $ drop ! $
         peeks ! S.the-row (Is S.the-row) (shows 𝓤 H A S.the-row) r (u ∷ []) (λ g.
         land ! (from ! (stop !)) (init ! 9 refl (EL.lawful S.the-type S′.the-laws 𝓤 H A W tt .typed r _ g .0)) $
         -- the answer's machine value is spelled out

@@ -1,20 +1,18 @@
-use Prim.Native.Nat.{ℕ}
-use mathlib.Core.Path.{sym, ap, ap₂, _∙_}
+use mathlib.Core.Path.{sym, ap₂, _∙_}
 use mathlib.Core.List.{List, []}
-use Rattle.records.specs.Refusals.{turned}
-use Rattle.records.specs.Jobs.{jobCount, jobList, refusalOf}
+use lib.ListN.{length}
+use Rattle.records.specs.Jobs.{jobList}
 use Rattle.records.specs.declared.job.Job.{Job}
-use Rattle.records.specs.declared.refusal.Refusal.{Refusal}
-use Rattle.records.proofs.Reading.{count-accepted, jobs-read, jobs-turned, jobs-on}
-use Rattle.configuration.specs.Settings.{settingsIn, settingTable}
-use Rattle.configuration.specs.Blocks.{settingsTests, readSettings, readConfiguration}
-use Rattle.configuration.proofs.Readers.{read-counted}
+use Rattle.records.specs.declared.range.Range.{Range}
+use Rattle.records.proofs.Asking.{call-knows, call-turned, call-on}
+use Rattle.configuration.specs.Settings.{settingTable}
+use Rattle.configuration.specs.Blocks.{settingsOf, recordTests, readSettings, readConfiguration}
 use borrow.Author.Needs.{needs}
 use Rattle.configuration.proofs.block.read_configuration.Statement.{statement}
 use Rattle.configuration.proofs.block.read_configuration.Tie as tie
 
-read-jobs-requires : tie.Need-read-jobs-requires
-read-jobs-requires c κs = search needs
+read-call-requires : tie.Need-read-call-requires
+read-call-requires c κs = search needs
 
 enum-known-answer : tie.Need-enum-known-answer
 enum-known-answer c = search needs
@@ -31,35 +29,35 @@ configuration-refused-requires c κs = search needs
 returns : tie.Need-returns
 unfolding readConfiguration
 returns c =
-    let p = c .before .before .before .before in
-    let a = p .before .before .before .args in
-    let s = a .jobs .now in
-    let told = c .before .before .enum-told .given .1 in
+    let r = c .before .before .before .before in
+    let a = r .before .before .before .args in
+    let jobs = a .jobs .now in
+    let block = a .configuration .now in
     c .configuration-refused .ensures
-    ∙ ap (λ (k : Refusal). turned k (settingTable [])) (c .before .refusal-of .ensures ∙ ap refusalOf told)
-    ∙ sym (jobs-turned s _ (p .read-jobs .ensures) (settingsTests (jobCount s) (jobList s) (a .low) (a .high) (a .block .now)) (jobCount s) (settingTable (settingsIn (jobCount s) (a .block .now))) (settingTable []) _ told)
+    ∙ call-turned jobs (a .low) (a .high) [] _ (r .read-call .ensures) (recordTests (jobList jobs) (a .low) (a .high) block) (length (jobList jobs)) (settingTable (settingsOf jobs block)) (settingTable [])
+    _ _ (c .before .before .enum-told .given .1) (c .before .refusal-of .ensures)
 
 read-settings-requires : tie.Need-read-settings-requires
 read-settings-requires c κs = search needs
 
 returns-2 : tie.Need-returns-2
-unfolding readConfiguration
+unfolding readSettings readConfiguration
 returns-2 c =
-    let p = c .before .before .before .before .before in
-    let a = p .before .before .before .args in
-    let s = a .jobs .now in
-    let told = c .before .before .before .answer .given .1 in
-    let r = jobs-read s _ (p .read-jobs .ensures) _ told in
+    let r = c .before .before .before .before .before .before in
+    let a = r .before .before .before .args in
+    let jobs = a .jobs .now in
+    let block = a .configuration .now in
+    let e = c .before .before .before .before .answer .given .1 in
+    let known = call-knows jobs (a .low) (a .high) [] _ (r .read-call .ensures) _ e .1 in
     c .read-settings .ensures
-    ∙ ap₂ (λ (n : ℕ) (t : List Job). readSettings n t (a .low) (a .high) (a .block .now)) (r .1) (r .2)
-    ∙ read-counted (jobCount s) (jobList s) (a .low) (a .high) (a .block .now) (count-accepted s (r .0))
-    ∙ sym (jobs-on s _ (p .read-jobs .ensures) (settingsTests (jobCount s) (jobList s) (a .low) (a .high) (a .block .now)) (jobCount s) (settingTable (settingsIn (jobCount s) (a .block .now))) (settingTable []) _ told)
+    ∙ ap₂ (λ (l : List Job) (x : Range). readSettings l (x .low) (x .high) block) (known .list) (known .range)
+    ∙ sym (call-on jobs (a .low) (a .high) [] _ (r .read-call .ensures) (recordTests (jobList jobs) (a .low) (a .high) block) (length (jobList jobs)) (settingTable (settingsOf jobs block)) (settingTable []) _ e)
 
 pub read-configuration-spec : {M : Type 1} → statement M
 read-configuration-spec =
     tie.close
     (tie.spec
-    read-jobs-requires
+    read-call-requires
     enum-known-answer
     enum-told
     refusal-of-requires

@@ -1,23 +1,28 @@
 use Prim.Native.Nat.{ℕ, _*_}
 use mathlib.Core.Path.{_≡_, sym, ap, ap₂, _∙_}
-use mathlib.Core.List.{List, _++_}
+use mathlib.Core.List.{List, [], _++_}
+use lib.ListN.{length, take}
+use lib.Seq.{length-take-le}
 use native.Mathlib.Omega.{arith}
-use lib.ListN.{length}
-use Rattle.records.specs.Refusals.{Tests, answer, verdict, outcome, turned, Accepts}
-use Rattle.records.specs.Jobs.{blockTests, jobCount, jobList, jobTable, refusalOf}
+use borrow.Author.Tests.{eq-eqb, ne-eqb}
+use Rattle.records.specs.Limits.{mostJobs}
+use Rattle.records.specs.Refusals.{Tests, answer, verdict, outcome}
+use Rattle.records.specs.Records.{written, roomTests, writeRecords}
+use Rattle.records.specs.Jobs.{jobList}
 use Rattle.records.specs.declared.job.Job.{Job}
-use Rattle.records.specs.declared.refusal.Refusal.{Refusal}
+use Rattle.records.specs.declared.range.Range.{Range}
 use Rattle.records.proofs.Outcomes.{turned-by, passed-by}
-use Rattle.records.proofs.Reading.{count-most, count-accepted, jobs-read, jobs-turned, jobs-on}
-use Rattle.configuration.specs.Settings.{settingSize}
-use Rattle.configuration.specs.Blocks.{settingsWritten, roomTests, writeSettings, tableTests, writeConfiguration}
-use Rattle.configuration.proofs.Readers.{table-jobs, write-counted}
+use Rattle.records.proofs.Reading.{jobs-listed}
+use Rattle.records.proofs.Asking.{Knows, call-knows, call-turned, call-on}
+use Rattle.configuration.specs.Settings.{settingSize, settingBytes}
+use Rattle.configuration.specs.Configuration.{settingTests}
+use Rattle.configuration.specs.Blocks.{countedTests, writeConfiguration}
 use borrow.Author.Needs.{needs}
 use Rattle.configuration.proofs.block.write_configuration.Statement.{statement}
 use Rattle.configuration.proofs.block.write_configuration.Tie as tie
 
-read-jobs-requires : tie.Need-read-jobs-requires
-read-jobs-requires c κs = search needs
+read-call-requires : tie.Need-read-call-requires
+read-call-requires c κs = search needs
 
 enum-known-answer : tie.Need-enum-known-answer
 enum-known-answer c = search needs
@@ -28,70 +33,96 @@ enum-told c = search needs
 refusal-of-requires : tie.Need-refusal-of-requires
 refusal-of-requires c κs = search needs
 
--- The tests after those of the job block.
-abbrev later : tie.Start → Tests
-later c =
-    let a = c .args in
-    let s = a .jobs .now in
-    tableTests (jobCount s) (jobList s) (a .low) (a .high) (a .count) (a .settings) ++ roomTests (jobCount s) (length (a .output .now))
+-- What the call is to come to.
+module _ (c : tie.Start) where
+  abbrev jobs : List Job
+  jobs = jobList (c .args .jobs .now)
 
-abbrev written : tie.Start → List ℕ
-written c = let a = c .args in settingsWritten (jobCount (a .jobs .now)) (a .settings) (a .output .now)
+  abbrev output : List ℕ
+  output = c .args .output .now
+
+  abbrev new : List ℕ
+  new = written settingSize settingBytes (take (c .args .count) (c .args .settings)) output
+
+  abbrev room : Tests
+  room = roomTests (settingSize * c .args .count) (length output)
+
+  whole : length (c .args .settings) ≡ mostJobs
+  whole = search needs
+
+  abbrev later : Tests
+  later = countedTests jobs (c .args .low) (c .args .high) (c .args .count) (c .args .settings) ++ room
 
 returns : tie.Need-returns
 unfolding writeConfiguration
 returns c =
-    let p = c .before .before .before in
-    let q = p .before .before .before in
-    let s = q .args .jobs .now in
-    let told = c .before .enum-told .given .1 in
-    ap (λ (k : Refusal). turned {A = ℕ} k (q .args .output .now)) (c .refusal-of .ensures ∙ ap refusalOf told)
-    ∙ sym (jobs-turned s _ (p .read-jobs .ensures) (later q) (settingSize * jobCount s) (written q) (q .args .output .now) _ told)
+    let r = c .before .before .before in
+    let s = r .before .before .before in
+    let a = s .args in
+    call-turned (a .jobs .now) (a .low) (a .high) [] _ (r .read-call .ensures) (later s) (settingSize * a .count) (new s) (output s)
+    _ _ (c .before .enum-told .given .1) (c .refusal-of .ensures)
 
--- Past the job block.
-module _ (c : tie.After-table) where
+-- Past the call, the table of settings decides.
+module _ (c : tie.After-known-told) where
+  abbrev called : tie.After-read-call
+  called = c .before .before .before
+
   abbrev start : tie.Start
-  start = c .before .before .before .before .before .before .before
-
-  abbrev jobs : List ℕ
-  jobs = start .args .jobs .now
+  start = called .before .before .before
 
   abbrev n : ℕ
-  n = c .before .before .answer .given .0 .0
+  n = c .before .answer .given .0 .0
 
-  read : Accepts (blockTests jobs) × (n ≡ jobCount jobs) × (c .before .before .before .before .read-jobs .result .table ≡ jobTable (jobList jobs))
-  read = jobs-read jobs _ (c .before .before .before .before .read-jobs .ensures) _ (c .before .before .answer .given .1)
+  known : Knows (start .args .jobs .now) (start .args .low) (start .args .high) (called .read-call .result) n
+  known = call-knows (start .args .jobs .now) (start .args .low) (start .args .high) [] _ (called .read-call .ensures) n (c .before .answer .given .1) .1
 
-  on : let a = start .args in
-      writeConfiguration jobs (a .low) (a .high) (a .count) (a .settings) (a .output .now)
-      ≡ outcome (later start) (settingSize * jobCount jobs) (written start) (a .output .now)
+  size : length (jobs start) ≡ n
+  size = jobs-listed (start .args .jobs .now) ∙ sym (known .count)
+
+  on : let a = start .args in writeConfiguration (a .jobs .now) (a .low) (a .high) (a .count) (a .settings) (output start) ≡ outcome (later start) (settingSize * a .count) (new start) (output start)
   unfolding writeConfiguration
-  on = jobs-on jobs _ (c .before .before .before .before .read-jobs .ensures) (later start) (settingSize * jobCount jobs) (written start) (start .args .output .now) _ (c .before .before .answer .given .1)
+  on =
+      let a = start .args in
+      call-on (a .jobs .now) (a .low) (a .high) [] _ (called .read-call .ensures) (later start) (settingSize * a .count) (new start) (output start) n (c .before .answer .given .1)
 
-judge-table-requires : tie.Need-judge-table-requires
-judge-table-requires c κs = let r = read c in omega (arith, count-most (jobs c) (r .0), r .1)
+returns-2 : tie.Need-returns-2
+returns-2 c =
+    let p = c .before in
+    sym (on p ∙ simp (ne-eqb (start p .args .count) (length (jobs (start p))) (λ e. c .if1 .taken (e ∙ size p))))
+
+judge-settings-requires : tie.Need-judge-settings-requires
+judge-settings-requires c κs = search needs
+
+-- Past refusal 7.
+module _ (c : tie.After-judge-settings) where
+  abbrev p : tie.After-known-told
+  p = c .before .before .before .before
+
+  abbrev s : tie.Start
+  s = start p
+
+  abbrev tests : Tests
+  tests = settingTests (jobs s) (s .args .low) (s .args .high) (take (s .args .count) (s .args .settings))
+
+  same : s .args .count ≡ n p
+  same = c .before .before .before .if1 .left
+
+  sized : outcome (later s) (settingSize * s .args .count) (new s) (output s) ≡ outcome (tests ++ room s) (settingSize * s .args .count) (new s) (output s)
+  sized = simp (eq-eqb (s .args .count) (length (jobs s)) (same ∙ sym (size p)))
+
+  judged : verdict (c .judge-settings .result) ≡ answer tests tt
+  judged =
+      c .judge-settings .ensures
+      ∙ ap₂ (λ (l : List Job) (x : Range). answer (settingTests l (x .low) (x .high) (take (n p) (s .args .settings))) tt) (known p .list) (known p .range)
+      ∙ ap (λ (m : ℕ). answer (settingTests (jobs s) (s .args .low) (s .args .high) (take m (s .args .settings))) tt) (sym same)
 
 enum-known-judged : tie.Need-enum-known-judged
 enum-known-judged c = search needs
 
-judged : (c : tie.After-judge-table) → let a = start (c .before) .args in let s = a .jobs .now in
-    verdict (c .judge-table .result) ≡ answer (tableTests (jobCount s) (jobList s) (a .low) (a .high) (a .count) (a .settings)) tt
-judged c =
-    let a = start (c .before) .args in
-    let s = a .jobs .now in
-    let r = read (c .before) in
-    c .judge-table .ensures
-    ∙ ap₂ (λ (k : ℕ) (t : List Job). answer (tableTests k t (a .low) (a .high) (a .count) (a .settings)) tt) (r .1) (r .2)
-    ∙ ap (λ (t : Tests). answer t tt) (table-jobs (jobCount s) (jobList s) (a .low) (a .high) (a .count) (a .settings))
-
-returns-2 : tie.Need-returns-2
-returns-2 c =
-    let p = c .before .before .before in
-    let q = start (p .before) in
-    let a = q .args in
-    let s = a .jobs .now in
-    sym (on (p .before) ∙ turned-by (tableTests (jobCount s) (jobList s) (a .low) (a .high) (a .count) (a .settings)) (roomTests (jobCount s) (length (a .output .now))) (settingSize * jobCount s)
-    (written q) (a .output .now) _ (judged p) _ (c .before .judged .given .1))
+returns-3 : tie.Need-returns-3
+returns-3 c =
+    let j = c .before .before .before in
+    sym (on (p j) ∙ sized j ∙ turned-by (tests j) (room (s j)) (settingSize * s j .args .count) (new (s j)) (output (s j)) _ (judged j) _ (c .before .judged .given .1))
 
 enum-told-2 : tie.Need-enum-told-2
 enum-told-2 c = search needs
@@ -102,34 +133,32 @@ write-settings-requires c κs = search needs
 same-length : tie.Need-same-length
 same-length c = search needs
 
-returns-3 : tie.Need-returns-3
-returns-3 c =
+returns-4 : tie.Need-returns-4
+unfolding writeRecords
+returns-4 c =
     let w = c .before .before in
-    let t = w .before .before in
-    let p = t .before .before in
-    let q = start (p .before) in
-    let a = q .args in
-    let s = a .jobs .now in
-    let r = read (p .before) in
+    let j = w .before .before .before .before in
+    let a = s j .args in
+    let one : length (take (n (p j)) (a .settings)) ≡ n (p j) = length-take-le (n (p j)) (a .settings) (omega (arith, known (p j) .few, whole (s j))) in
     w .write-settings .ensures
-    ∙ ap (λ (k : ℕ). writeSettings k (a .settings) (a .output .now)) (r .1)
-    ∙ write-counted (jobCount s) (a .settings) (a .output .now) (count-accepted s (r .0))
-    ∙ sym (on (p .before) ∙ passed-by (tableTests (jobCount s) (jobList s) (a .low) (a .high) (a .count) (a .settings)) (roomTests (jobCount s) (length (a .output .now))) (settingSize * jobCount s)
-    (written q) (a .output .now) _ (judged p) (t .enum-told2 .given .1))
+    ∙ ap (λ (m : ℕ). outcome (roomTests (settingSize * m) (length (output (s j)))) (settingSize * m) (written settingSize settingBytes (take (n (p j)) (a .settings)) (output (s j))) (output (s j))) one
+    ∙ ap (λ (m : ℕ). outcome (roomTests (settingSize * m) (length (output (s j)))) (settingSize * m) (written settingSize settingBytes (take m (a .settings)) (output (s j))) (output (s j))) (sym (same j))
+    ∙ sym (on (p j) ∙ sized j ∙ passed-by (tests j) (room (s j)) (settingSize * a .count) (new (s j)) (output (s j)) _ (judged j) (w .before .before .enum-told2 .given .1))
 
 pub write-configuration-spec : {M : Type 1} → statement M
 write-configuration-spec =
     tie.close
     (tie.spec
-    read-jobs-requires
+    read-call-requires
     enum-known-answer
     enum-told
     refusal-of-requires
     returns
-    judge-table-requires
-    enum-known-judged
     returns-2
+    judge-settings-requires
+    enum-known-judged
+    returns-3
     enum-told-2
     write-settings-requires
     same-length
-    returns-3)
+    returns-4)

@@ -1,18 +1,19 @@
-use Prim.Native.Nat.{ℕ, _≤_, _-_}
+use Prim.Native.Nat.{ℕ, _*_, _≤_, _-_}
 use mathlib.Core.Path.{_≡_, ap, _∙_}
+use mathlib.Core.List.{_++_}
 use native.Mathlib.Omega.{arith}
-use lib.ListN.{length}
+use lib.ListN.{length, drop, take}
+use lib.Seq.{length-take-le}
 use Rattle.records.specs.Records.{flat}
-use Rattle.records.proofs.FixedWidth.{write-next}
+use Rattle.records.proofs.FixedWidth.{write-next, written-at}
 use Rattle.configuration.specs.Settings.{settingSize, settingBytes, blankSetting}
-use Rattle.configuration.specs.Blocks.{settingsWritten}
 use Rattle.configuration.proofs.SettingRecords.{setting-width}
 use borrow.Author.Needs.{needs}
 use Rattle.configuration.proofs.bytes.encode.Statement.{statement}
 use Rattle.configuration.proofs.bytes.encode.Tie as tie
 
 abbrev Inv-loop : tie.InvT-loop
-Inv-loop n output₀ table i₀ output i = (i ≤ n) × (length output ≡ length output₀) × (output ≡ settingsWritten i table output₀)
+Inv-loop n output₀ table i₀ output i = (i ≤ n) × (length output ≡ length output₀) × (output ≡ flat settingBytes (take i table) ++ drop (settingSize * i) output₀)
 
 abbrev μ-loop : tie.MeasureT-loop
 μ-loop n output₀ table i₀ output i = n - i
@@ -64,7 +65,9 @@ returns c =
     let l = c .before .loop in
     let a = c .before .before .before .args in
     let e : l .i ≡ a .n = omega arith in
-    l .inv .2 ∙ ap (λ (k : ℕ). settingsWritten k (a .t1) (a .output .now)) e
+    l .inv .2
+    ∙ ap (λ (k : ℕ). flat settingBytes (take k (a .t1)) ++ drop (settingSize * k) (a .output .now)) e
+    ∙ written-at settingSize settingBytes (take (a .n) (a .t1)) (a .n) (a .output .now) (length-take-le (a .n) (a .t1) (search needs))
 
 pub encode-spec : {M : Type 1} → statement M
 encode-spec =

@@ -32,6 +32,9 @@ enum-told-3 c = search needs
 is-levelled-requires : tie.Need-is-levelled-requires
 is-levelled-requires c κs = search needs
 
+enum-told-4 : tie.Need-enum-told-4
+enum-told-4 c = search needs
+
 -- What the rule asks where it is known.
 told : (c : tie.After-setting) {rule : SettingRule} → let a = c .before .args in a .rule ≡ rule
     → settingOk rule (a .n) (a .t2) (a .range .low) (a .range .high) (a .t3) (a .i) ≡ settingOk (a .rule) (a .n) (a .t2) (a .range .low) (a .range .high) (a .t3) (a .i)
@@ -46,6 +49,9 @@ returns-2 c = c .has-shape .ensures ∙ told (c .before .before .before) (c .bef
 returns-3 : tie.Need-returns-3
 returns-3 c = c .is-levelled .ensures ∙ told (c .before .before .before) (c .before .enum-told3 .given .1)
 
+returns-4 : tie.Need-returns-4
+returns-4 c = told (c .before .before .before) (c .before .enum-told4 .given .1)
+
 pub setting-ok-spec : {M : Type 1} → statement M
 setting-ok-spec =
     tie.close
@@ -59,6 +65,8 @@ setting-ok-spec =
     has-shape-requires
     enum-told-3
     is-levelled-requires
+    enum-told-4
     returns
     returns-2
-    returns-3)
+    returns-3
+    returns-4)

@@ -50,16 +50,16 @@ use denote.Exit.{yes}
 use denote.Triple.Clauses.{ensured, lasts}
 use borrow.Struct.Items.{made-array}
 use Rattle.records.specs.declared.job.Job.{Job}
-use Rattle.desk.specs.declared.EditAnswer.{EditAnswer}
+use Rattle.records.specs.declared.refusal.Verdict.{Verdict}
 use Rattle.desk.specs.declared.held.Edited.{Edited}
-use Rattle.records.specs.Refusals.{Answer}
-use Rattle.desk.specs.Edits.{roomy, editAnswer, editOutcome, heldAnswer, editFirst}
+use Rattle.records.specs.Refusals.{Answer, verdict}
+use Rattle.desk.specs.Edits.{roomy, editOutcome, heldAnswer, editFirst}
 use Rattle.desk.proofs.Front.{front-cut, front-glue}
 use Rattle.desk.proofs.Numbers.{Fit, Numbers, numbers}
 use Rattle.records.proofs.job.Job as T
 use Rattle.records.proofs.job.Job.Laws as T′
-use Rattle.desk.proofs.EditAnswer as S
-use Rattle.desk.proofs.EditAnswer.Laws as S′
+use Rattle.records.proofs.refusal.Verdict as S
+use Rattle.records.proofs.refusal.Verdict.Laws as S′
 use Rattle.desk.proofs.held.Edited as E
 use Rattle.desk.proofs.held.Edited.Laws as E′
 use Rattle.desk.proofs.edit as edit
@@ -114,22 +114,22 @@ module _ {M : Type 1} (𝓤 : URA M) (H : Heap 𝓤) (A : Atoms 𝓤) (W : Given
   Post = walkOf 𝓤 H A f.ended stayed (f.clauses 𝓤 H A mem″ run) .post ((tt, tt, tt, a, at), tt)
 
   -- the result: the answer, and the table with the lent part as it came back
-  abbrev result : EditAnswer → List Job → Edited
+  abbrev result : Verdict → List Job → Edited
   result r zs = record { answer = r; jobs = zs }
 
-  abbrev answered : EditAnswer → Val
+  abbrev answered : Verdict → Val
   answered = EL.val S.the-type S′.the-laws
 
   -- its machine value
-  abbrev machine : EditAnswer → List Job → Val
+  abbrev machine : Verdict → List Job → Val
   machine r zs = vstruct (ofList (answered r ∷ val zs ∷ []))
 
-  made : (r : EditAnswer) (zs : List Job) → Is S.the-row r (answered r ∷ []) → Is Table zs (val zs ∷ []) → WT (val zs) → Is E.the-row (result r zs) (machine r zs ∷ [])
+  made : (r : Verdict) (zs : List Job) → Is S.the-row r (answered r ∷ []) → Is Table zs (val zs ∷ []) → WT (val zs) → Is E.the-row (result r zs) (machine r zs ∷ [])
   made r zs is are wt =
       let jobs = made-array T.the-field T′.the-field-laws roomy zs are wt in
       subst (λ (v : Val). Is E.the-row (result r zs) (vstruct (ofList (answered r ∷ v ∷ [])) ∷ [])) (sym (jobs .0)) (LL.owes E.the-type E′.the-laws (result r zs) (is, (jobs .1, tt)))
 
-  exits : (r : EditAnswer) (zs : List Job) → Is E.the-row (result r zs) (machine r zs ∷ []) → heldAnswer (result r zs) ≡ editFirst ys n i c t d → ent 𝓤 (emp 𝓤) (Post (machine r zs))
+  exits : (r : Verdict) (zs : List Job) → Is E.the-row (result r zs) (machine r zs ∷ []) → heldAnswer (result r zs) ≡ editFirst ys n i c t d → ent 𝓤 (emp 𝓤) (Post (machine r zs))
   exits r zs had is =
       qed W [] ∵
       suffices ! _ (ends-at 𝓤 H A f.ended stayed (f.clauses 𝓤 H A mem″ run) W ((tt, tt, tt, a, at), tt) (machine r zs) (result r zs) (tt, (tt, (tt, (tt, (tt, (tt, tt)))))) (tt, (tt, (tt, (tt, (tt, (tt, tt))))))) $ says ! is $
@@ -158,10 +158,10 @@ module _ {M : Type 1} (𝓤 : URA M) (H : Heap 𝓤) (A : Atoms 𝓤) (W : Given
         move ! (2 ∷ 0 ∷ []) $ fjoin ! $ move ! (1 ∷ 0 ∷ []) $ join ! $ frame ! $ done !
 
   -- what `edit` says of its answer and of the last list
-  abbrev Said : EditAnswer → List Job → Type 0
-  Said r zs = (editAnswer r, zs) ≡ editOutcome fs i c t d
+  abbrev Said : Verdict → List Job → Type 0
+  Said r zs = (verdict r, zs) ≡ editOutcome fs i c t d
 
-  first-said : (r : EditAnswer) (zs : List Job) → Said r zs → heldAnswer (result r (zs ++ bs)) ≡ editFirst ys n i c t d
+  first-said : (r : Verdict) (zs : List Job) → Said r zs → heldAnswer (result r (zs ++ bs)) ≡ editFirst ys n i c t d
   unfolding editFirst
   first-said r zs e = ap (λ (o : Answer (Unit {0}) × List Job). (o .0, o .1 ++ bs)) e
 
@@ -191,7 +191,7 @@ module _ {M : Type 1} (𝓤 : URA M) (H : Heap 𝓤) (A : Atoms 𝓤) (W : Given
         -- [what `edit` asks; the lender's part; the others; _11 (3); _10 (5); _9; _8; (_7's right to be freed, 11); _6 (12); _5; _4; _3; _2; _1; _0 (24)]
         calls-at ! fm (Edit 𝓤 H A mem″ run) known (to (α ∷ []) l₇ γ) (and-then ! (load ! (from ! (stop !)) (look ! 5 refl)) (and-then ! (load ! (from ! (stop !)) (look ! 18 refl)) (and-then ! (load ! (from ! (stop !)) (look ! 16 refl))
         (and-then ! (load ! (from ! (stop !)) (look ! 14 refl)) (and-then ! (load ! (from ! (stop !)) (look ! 12 refl)) (no-more !)))))) (λ u.
-        use1 W (later (some (λ (r : EditAnswer). ((‵ (flft (α ∷ []) fullShare) ⊛ ‵ ftrue) ⊛ ‵ (S.the-row .own r (u ∷ []))) ⊛ raw (ensured 𝓤 H A edit.ended (edit.clauses 𝓤 H A mem″ run) ((α ∷ []), tt) (args (α ∷ []) l₇ γ) tt r)))) (id⊢ 𝓤 _) $ await ! tt $ pick ! (λ r.
+        use1 W (later (some (λ (r : Verdict). ((‵ (flft (α ∷ []) fullShare) ⊛ ‵ ftrue) ⊛ ‵ (S.the-row .own r (u ∷ []))) ⊛ raw (ensured 𝓤 H A edit.ended (edit.clauses 𝓤 H A mem″ run) ((α ∷ []), tt) (args (α ∷ []) l₇ γ) tt r)))) (id⊢ 𝓤 _) $ await ! tt $ pick ! (λ r.
         split ! $ move ! (1 ∷ []) $ use1 W (some (λ (zs : List Job × (Unit {0} × (Unit {0} × (Unit {0} × (Unit {0} × Unit {0}))))). ‵ (lasts edit.ended ((α ∷ []), tt) (args (α ∷ []) l₇ γ) zs) ⊛ raw (fact 𝓤 (Said r (zs .0))))) (id⊢ 𝓤 _) $ pick ! (λ ws.
         split ! $ move ! (1 ∷ []) $ heard ! (Said r (ws .0)) (λ said. fsplit ! $ fsplit ! $ move ! (1 ∷ []) $ feqL ! (λ l.
         -- [the last list; what is said of the others; the token and the answer; the lender's part; the others; _11 (5); …]

@@ -11,7 +11,7 @@ use Rattle.sets.specs.Sets.{has}
 use Rattle.sets.proofs.Places.{over-none, over-in, over-out}
 use Rattle.records.specs.Limits.{mostJobs}
 use Rattle.records.specs.Jobs.{jobAt}
-use Rattle.finishes.specs.Finishes.{whole, load, spareOf, delaysOf, mostCarried}
+use Rattle.finishes.specs.Finishes.{load, spareOf, delaysOf, mostCarried}
 use borrow.Author.Needs.{needs}
 use Rattle.finishes.proofs.capacity.capacity_of.Statement.{statement}
 use Rattle.finishes.proofs.capacity.capacity_of.Tie as tie

@@ -1,23 +1,22 @@
-use borrow.Author.Tests.{lt-leb, le-leb}
-use Rattle.marker.specs.Marks.{writeBounds}
+use Rattle.records.specs.Limits.{mostJobs}
+use Rattle.records.specs.Records.{wordBytes}
+use Rattle.marker.specs.Marks.{boundSize}
+use Rattle.records.proofs.FixedWidth.{no-room, room}
 use borrow.Author.Needs.{needs}
 use Rattle.marker.proofs.block.write_bounds.Statement.{statement}
 use Rattle.marker.proofs.block.write_bounds.Tie as tie
 
-returns : tie.Need-returns
-unfolding writeBounds
-returns c = simp (lt-leb _ _ (c .if1 .taken))
-
-returns-2 : tie.Need-returns-2
-unfolding writeBounds
-returns-2 c = simp (le-leb _ _ (c .before .if1 .left), lt-leb _ _ (c .if2 .taken))
+at-most-requires : tie.Need-at-most-requires
+at-most-requires c κs = search needs
 
 mul-size : tie.Need-mul-size
 mul-size c = search needs
 
-returns-3 : tie.Need-returns-3
-unfolding writeBounds
-returns-3 c = simp (le-leb _ _ (c .before .before .if1 .left), le-leb _ _ (c .before .if2 .left), lt-leb _ _ (c .if3 .taken))
+returns : tie.Need-returns
+returns c =
+    let p = c .before in
+    let a = p .before .before .args in
+    no-room boundSize wordBytes (a .bounds) mostJobs (a .n) _ (search needs) (p .at-most .ensures) (a .output .now) (search needs)
 
 encode-requires : tie.Need-encode-requires
 encode-requires c κs = search needs
@@ -25,11 +24,13 @@ encode-requires c κs = search needs
 same-length : tie.Need-same-length
 same-length c = search needs
 
-returns-4 : tie.Need-returns-4
-unfolding writeBounds
-returns-4 c =
-    let p = c .before .before .before .before in
-    simp (c .before .before .encode .ensures, le-leb _ _ (p .before .before .if1 .left), le-leb _ _ (p .before .if2 .left), le-leb _ _ (p .if3 .left))
+returns-2 : tie.Need-returns-2
+returns-2 c =
+    let e = c .before .before in
+    let p = e .before .before .before in
+    let a = p .before .before .args in
+    room boundSize wordBytes (a .bounds) mostJobs (a .n) _ (search needs) (p .at-most .ensures) (a .output .now) (search needs) _ (e .encode .ensures)
 
 pub write-bounds-spec : {M : Type 1} → statement M
-write-bounds-spec = tie.close (tie.spec returns returns-2 mul-size returns-3 encode-requires same-length returns-4)
+write-bounds-spec =
+    tie.close (tie.spec at-most-requires mul-size returns encode-requires same-length returns-2)

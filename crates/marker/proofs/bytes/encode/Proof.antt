@@ -1,16 +1,18 @@
-use Prim.Native.Nat.{ℕ, _≤_, _-_}
+use Prim.Native.Nat.{ℕ, _*_, _≤_, _-_}
 use mathlib.Core.Path.{_≡_, ap, _∙_}
+use mathlib.Core.List.{_++_}
 use native.Mathlib.Omega.{arith}
-use lib.ListN.{length}
+use lib.ListN.{length, drop, take}
+use lib.Seq.{length-take-le}
 use Rattle.records.specs.Records.{wordBytes, flat}
-use Rattle.records.proofs.FixedWidth.{write-next, word-width}
-use Rattle.marker.specs.Marks.{boundSize, boundsWritten}
+use Rattle.records.proofs.FixedWidth.{write-next, written-at, word-width}
+use Rattle.marker.specs.Marks.{boundSize}
 use borrow.Author.Needs.{needs}
 use Rattle.marker.proofs.bytes.encode.Statement.{statement}
 use Rattle.marker.proofs.bytes.encode.Tie as tie
 
 abbrev Inv-loop : tie.InvT-loop
-Inv-loop n output₀ bounds i₀ output i = (i ≤ n) × (length output ≡ length output₀) × (output ≡ boundsWritten i bounds output₀)
+Inv-loop n output₀ bounds i₀ output i = (i ≤ n) × (length output ≡ length output₀) × (output ≡ flat wordBytes (take i bounds) ++ drop (boundSize * i) output₀)
 
 abbrev μ-loop : tie.MeasureT-loop
 μ-loop n output₀ bounds i₀ output i = n - i
@@ -62,7 +64,9 @@ returns c =
     let l = c .before .loop in
     let a = c .before .before .before .args in
     let e : l .i ≡ a .n = omega arith in
-    l .inv .2 ∙ ap (λ (k : ℕ). boundsWritten k (a .t1) (a .output .now)) e
+    l .inv .2
+    ∙ ap (λ (k : ℕ). flat wordBytes (take k (a .t1)) ++ drop (boundSize * k) (a .output .now)) e
+    ∙ written-at boundSize wordBytes (take (a .n) (a .t1)) (a .n) (a .output .now) (length-take-le (a .n) (a .t1) (search needs))
 
 pub encode-spec : {M : Type 1} → statement M
 encode-spec =

@@ -12,59 +12,59 @@ use Rattle.planner.proofs.levels.plan_levels.Statement.{statement}
 use Rattle.planner.proofs.levels.plan_levels.Tie as tie
 
 abbrev Inv-loop : tie.InvT-loop
-Inv-loop question progress₀ level₀ progress level = (level ≤ question .n) × Reaches question level progress
+Inv-loop question sequence progress₀ level₀ progress level = (level ≤ question .n) × Reaches question sequence level progress
 
 abbrev μ-loop : tie.MeasureT-loop
-μ-loop question progress₀ level₀ progress level = level
+μ-loop question sequence progress₀ level₀ progress level = level
 
 start-requires : tie.Need-start-requires Inv-loop μ-loop
 start-requires c κs = search needs
 
 loop-holds : tie.Need-loop-holds Inv-loop μ-loop
 loop-holds c =
-    let s = c .before in
-    (omega arith, reaches-start (s .args .question) (s .pre) (c .start .result) (c .start .ensures))
+    let s = c .before .before in
+    (omega arith, reaches-start (s .args .question) (s .pre .0) (s .args .sequence .now) (s .pre .1) (c .start .result) (c .start .ensures))
 
 -- A turn's level is one past the next one's.
-below : (c : tie.In-loop Inv-loop μ-loop) → Reaches (c .before .before .before .args .question) (suc (c .before .loop .level - 1)) (c .before .loop .progress)
+below : (c : tie.In-loop Inv-loop μ-loop) → Reaches (c .before .before .before .before .args .question) (c .before .before .before .before .args .sequence .now) (suc (c .before .loop .level - 1)) (c .before .loop .progress)
 below c =
     let l = c .before .loop in
     let e : l .level ≡ suc (l .level - 1) = omega (arith, c .loop-test .taken) in
-    subst (λ (m : ℕ). Reaches (c .before .before .before .args .question) m (l .progress)) e (l .inv .1)
+    subst (λ (m : ℕ). Reaches (c .before .before .before .before .args .question) (c .before .before .before .before .args .sequence .now) m (l .progress)) e (l .inv .1)
 
 choose-requires : tie.Need-choose-requires Inv-loop μ-loop
 choose-requires c κs =
-    let s = c .before .before .before in
+    let s = c .before .before .before .before in
     let R = c .before .loop .inv .1 in
-    (s .pre, omega (arith, R .less, ap (λ (p : Progress). p .left) (R .shows)))
+    (s .pre .0, omega (arith, R .less, ap (λ (p : Progress). p .left) (R .shows)), s .pre .1)
 
 add-progress : tie.Need-add-progress Inv-loop μ-loop
 add-progress c =
     let t = c .before .before .before .before in
     let l = t .before in
-    let s = l .before .before .before in
-    omega (arith, reaches-room (s .args .question) (s .pre) (l .before .loop .level - 1) (l .before .loop .progress) (below l) (t .choose .result) (t .choose .ensures))
+    let s = l .before .before .before .before in
+    omega (arith, reaches-room (s .args .question) (s .pre .0) (s .args .sequence .now) (s .pre .1) (l .before .loop .level - 1) (l .before .loop .progress) (below l) (t .choose .result) (t .choose .ensures))
 
 returns : tie.Need-returns Inv-loop μ-loop
 returns c =
     let t = c .before .before .before .before in
     let l = t .before in
-    let s = l .before .before .before in
-    reaches-stop (s .args .question) (s .pre) (l .before .loop .level - 1) (l .before .loop .progress) (below l) (t .choose .result) (t .choose .ensures) (c .before .before .if1 .taken) _ refl
+    let s = l .before .before .before .before in
+    reaches-stop (s .args .question) (s .pre .0) (s .args .sequence .now) (s .pre .1) (l .before .loop .level - 1) (l .before .loop .progress) (below l) (t .choose .result) (t .choose .ensures) (c .before .before .if1 .taken) _ refl
 
 cast-place : tie.Need-cast-place Inv-loop μ-loop
 cast-place c =
     let l = c .before .before .before .before in
-    let s = l .before .before in
-    omega (arith, l .loop .inv .0, s .pre .few)
+    let s = l .before .before .before in
+    omega (arith, l .loop .inv .0, s .pre .0 .few)
 
 place-requires : tie.Need-place-requires Inv-loop μ-loop
 place-requires c κs =
     let t = c .before .before in
     let l = t .before in
-    let s = l .before .before .before in
-    let w = reaches-inside (s .args .question) (s .pre) (l .before .loop .level - 1) (l .before .loop .progress) (below l) (t .choose .result) (t .choose .ensures) in
-    (s .pre, w .0, w .1, reaches-room (s .args .question) (s .pre) (l .before .loop .level - 1) (l .before .loop .progress) (below l) (t .choose .result) (t .choose .ensures))
+    let s = l .before .before .before .before in
+    let w = reaches-inside (s .args .question) (s .pre .0) (s .args .sequence .now) (s .pre .1) (l .before .loop .level - 1) (l .before .loop .progress) (below l) (t .choose .result) (t .choose .ensures) in
+    (s .pre .0, w .0, w .1, reaches-room (s .args .question) (s .pre .0) (s .args .sequence .now) (s .pre .1) (l .before .loop .level - 1) (l .before .loop .progress) (below l) (t .choose .result) (t .choose .ensures))
 
 sub-level : tie.Need-sub-level Inv-loop μ-loop
 sub-level c = search needs
@@ -78,7 +78,7 @@ loop-again : tie.Need-loop-again Inv-loop μ-loop
 loop-again c =
     let t = c .before .before .before in
     let l = t .before in
-    let s = l .before .before .before in
+    let s = l .before .before .before .before in
     let a = s .args in
     let v = l .before .loop .level - 1 in
     let e : l .before .loop .level ≡ suc v = omega (arith, l .loop-test .taken) in
@@ -86,14 +86,14 @@ loop-again c =
     let is = c .place .ensures
     ∙ ap (λ (m : ℕ). progressOf (place (listed (a .question)) m (r .set) (take (a .question .n) (r .quanta)) (stageOf (l .before .loop .progress))) (l .before .loop .progress .considered + r .considered)) e
     in
-    (omega (arith, l .before .loop .inv .0), reaches-next (a .question) (s .pre) v (l .before .loop .progress) (below l) r (t .choose .ensures) (c .before .if1 .left) (c .place .result) is)
+    (omega (arith, l .before .loop .inv .0), reaches-next (a .question) (s .pre .0) (a .sequence .now) (s .pre .1) v (l .before .loop .progress) (below l) r (t .choose .ensures) (c .before .if1 .left) (c .place .result) is)
 
 returns-2 : tie.Need-returns-2 Inv-loop μ-loop
 returns-2 c =
     let l = c .before .loop in
-    let s = c .before .before .before in
+    let s = c .before .before .before .before in
     let e : l .level ≡ 0 = omega (arith, c .loop-test .left) in
-    reaches-end (s .args .question) (s .pre) (l .progress) (subst (λ (m : ℕ). Reaches (s .args .question) m (l .progress)) e (l .inv .1))
+    reaches-end (s .args .question) (s .pre .0) (s .args .sequence .now) (s .pre .1) (l .progress) (subst (λ (m : ℕ). Reaches (s .args .question) (s .args .sequence .now) m (l .progress)) e (l .inv .1))
 
 pub plan-levels-spec : {M : Type 1} → statement M
 plan-levels-spec =

@@ -51,10 +51,10 @@ claims t = (
 
 abbrev settle-Inv-loop : settle-lts.InvT-loop
 settle-Inv-loop question layer above pending job after now₀ now =
-    Standing (listed question) (question .low) (question .high) (has layer) (has above) now × ((i : ℕ) → has pending i ≡ false → getD now i 0 ≡ getD now₀ i 0)
+    Standing (listed question) (question .range .low) (question .range .high) (has layer) (has above) now × ((i : ℕ) → has pending i ≡ false → getD now i 0 ≡ getD now₀ i 0)
 
 abbrev settle-μ-loop : settle-lts.MeasureT-loop
-settle-μ-loop question layer above pending job after now₀ now = question .high - getD now job 0
+settle-μ-loop question layer above pending job after now₀ now = question .range .high - getD now job 0
 
 -- What is known of the question.
 module _ (t : ℕ) (c : settle-lts.Start (claims t) (settle-at t) settle.Post settle-Inv-loop settle-μ-loop) where
@@ -67,7 +67,7 @@ module _ (t : ℕ) (c : settle-lts.Start (claims t) (settle-at t) settle.Post se
   costs : Costs jobs
   costs = listed-costs (c .args .question) (pending .laid .accepted)
 
-  lp : 0 < c .args .question .low
+  lp : 0 < c .args .question .range .low
   lp = pending .laid .accepted .low
 
 -- What is known at a turn of the loop.
@@ -97,7 +97,7 @@ settle-returns : (t : ℕ) → settle-lts.Need-returns (claims t) (settle-at t) 
 settle-returns t c =
     let s = c .before in
     let a = s .args in
-    says-none (jobs t s) (costs t s) (a .question .low) (a .question .high) (lp t s) (has (a .layer)) (has (a .above)) (has (a .pending)) (a .quanta)
+    says-none (jobs t s) (costs t s) (a .question .range .low) (a .question .range .high) (lp t s) (has (a .layer)) (has (a .above)) (has (a .pending)) (a .quanta)
     (λ i. ap (λ (x : ℕ). has x i) (c .if1 .taken) ∙ has-none i) (pending t s .standing)
 
 settle-lowest-requires : (t : ℕ) → settle-lts.Need-lowest-requires (claims t) (settle-at t) settle.Post settle-Inv-loop settle-μ-loop
@@ -128,18 +128,18 @@ settle-returns-2 t c =
     let s = start t l in
     let a = s .args in
     let r = c .before .before .settle in
-    says-fails (jobs t s) (costs t s) (a .question .low) (a .question .high) (lp t s) (has (a .layer)) (has (a .above)) (has (after t l)) (has (a .pending)) (l .loop .now) (a .quanta)
+    says-fails (jobs t s) (costs t s) (a .question .range .low) (a .question .range .high) (lp t s) (has (a .layer)) (has (a .above)) (has (after t l)) (has (a .pending)) (l .loop .now) (a .quanta)
     (r .result .found) (r .result .quanta) (r .result .quanta) (not-true _ (c .if2 .taken)) (r .ensures)
 
 -- The jobs after are settled.
 settled : (t : ℕ) (c : settle-lts.Else2 (claims t) (settle-at t) settle.Post settle-Inv-loop settle-μ-loop) → let l = c .before .before .before in let a = start t l .args in
-    Settled (jobs t (start t l)) (a .question .low) (a .question .high) (has (a .layer)) (has (a .above)) (has (after t l)) (l .loop .now) (c .before .before .settle .result .quanta)
+    Settled (jobs t (start t l)) (a .question .range .low) (a .question .range .high) (has (a .layer)) (has (a .above)) (has (after t l)) (l .loop .now) (c .before .before .settle .result .quanta)
 settled t c =
     let l = c .before .before .before in
     let s = start t l in
     let a = s .args in
     let r = c .before .before .settle in
-    says-settled (jobs t s) (costs t s) (a .question .low) (a .question .high) (lp t s) (has (a .layer)) (has (a .above)) (has (after t l)) (l .loop .now)
+    says-settled (jobs t s) (costs t s) (a .question .range .low) (a .question .range .high) (lp t s) (has (a .layer)) (has (a .above)) (has (after t l)) (l .loop .now)
     (r .result .found) (r .result .quanta) (not-false _ (c .if2 .left)) (r .ensures)
 
 settle-raise-requires : (t : ℕ) → settle-lts.Need-raise-requires (claims t) (settle-at t) settle.Post settle-Inv-loop settle-μ-loop
@@ -154,7 +154,7 @@ settle-returns-3 t c =
     let l = r .before .before .before .before .before in
     let s = start t l in
     let a = s .args in
-    raise-fails (jobs t s) (costs t s) (a .question .low) (a .question .high) (lp t s) (has (a .layer)) (has (a .above)) (job t l) (r .before .before .before .before .settle .result .quanta) (has (a .pending)) (a .quanta)
+    raise-fails (jobs t s) (costs t s) (a .question .range .low) (a .question .range .high) (lp t s) (has (a .layer)) (has (a .above)) (job t l) (r .before .before .before .before .settle .result .quanta) (has (a .pending)) (a .quanta)
     (r .raise .result .found) (r .raise .result .quanta) (not-true _ (c .if3 .taken)) (r .raise .ensures)
 
 settle-array-read-if4 : (t : ℕ) → settle-lts.Need-array-read-if4 (claims t) (settle-at t) settle.Post settle-Inv-loop settle-μ-loop
@@ -165,14 +165,14 @@ settle-array-read-if4-2 t c = splits t (c .before .before .before .before .befor
 
 -- The job's own quantum is raised.
 raised : (t : ℕ) (c : settle-lts.Else3 (claims t) (settle-at t) settle.Post settle-Inv-loop settle-μ-loop) → let r = c .before .before in let l = r .before .before .before .before .before in let a = start t l .args in
-    Raised (jobs t (start t l)) (a .question .low) (a .question .high) (has (a .layer)) (has (a .above)) (job t l) (r .before .before .before .before .settle .result .quanta) (r .raise .result .quanta)
+    Raised (jobs t (start t l)) (a .question .range .low) (a .question .range .high) (has (a .layer)) (has (a .above)) (job t l) (r .before .before .before .before .settle .result .quanta) (r .raise .result .quanta)
     × (0 < bound (jobs t (start t l)) (r .raise .result .quanta) (has (a .layer)) (has (a .above)) (job t l))
 raised t c =
     let r = c .before .before in
     let l = r .before .before .before .before .before in
     let s = start t l in
     let a = s .args in
-    raises-raised (jobs t s) (costs t s) (a .question .low) (a .question .high) (lp t s) (has (a .layer)) (has (a .above)) (job t l) (r .before .before .before .before .settle .result .quanta)
+    raises-raised (jobs t s) (costs t s) (a .question .range .low) (a .question .range .high) (lp t s) (has (a .layer)) (has (a .above)) (job t l) (r .before .before .before .before .settle .result .quanta)
     (r .raise .result .found) (r .raise .result .quanta) (not-false _ (c .if3 .left)) (r .raise .ensures)
 
 settle-returns-4 : (t : ℕ) → settle-lts.Need-returns-4 (claims t) (settle-at t) settle.Post settle-Inv-loop settle-μ-loop
@@ -185,8 +185,8 @@ settle-returns-4 t c =
     let a = s .args in
     let S = splits t l in
     let q = e .before .before .settle .result in
-    says-ends (jobs t s) (costs t s) (a .question .low) (a .question .high) (lp t s) (has (a .layer)) (has (a .above)) (has (a .pending)) (a .quanta) (q .found) (q .quanta) (not-false _ (e .if2 .left))
-    (turn-ends (jobs t s) (costs t s) (a .question .low) (a .question .high) (lp t s) (has (a .layer)) (has (a .above)) (job t l) (listed-place t l) (in-layer t l)
+    says-ends (jobs t s) (costs t s) (a .question .range .low) (a .question .range .high) (lp t s) (has (a .layer)) (has (a .above)) (has (a .pending)) (a .quanta) (q .found) (q .quanta) (not-false _ (e .if2 .left))
+    (turn-ends (jobs t s) (costs t s) (a .question .range .low) (a .question .range .high) (lp t s) (has (a .layer)) (has (a .above)) (job t l) (listed-place t l) (in-layer t l)
     (has (a .pending)) (has (after t l)) (S .own) (S .off) (S .inside) (S .outside) (a .quanta) (l .loop .now) (l .loop .inv .1) (q .quanta) (settled t e) (r .raise .result .quanta) (raised t g .0) (raised t g .1) (c .if4 .taken))
 
 settle-loop-less : (t : ℕ) → settle-lts.Need-loop-less (claims t) (settle-at t) settle.Post settle-Inv-loop settle-μ-loop
@@ -198,7 +198,7 @@ settle-loop-less t c =
     let s = start t l in
     let a = s .args in
     let S = splits t l in
-    turn-less (jobs t s) (costs t s) (a .question .low) (a .question .high) (lp t s) (has (a .layer)) (has (a .above)) (job t l) (listed-place t l) (in-layer t l)
+    turn-less (jobs t s) (costs t s) (a .question .range .low) (a .question .range .high) (lp t s) (has (a .layer)) (has (a .above)) (job t l) (listed-place t l) (in-layer t l)
     (has (a .pending)) (has (after t l)) (S .own) (S .off) (S .inside) (S .outside) (a .quanta) (l .loop .now) (l .loop .inv .1) (e .before .before .settle .result .quanta) (settled t e) (r .raise .result .quanta) (raised t g .0) (raised t g .1) (c .if4 .left)
 
 settle-loop-again : (t : ℕ) → settle-lts.Need-loop-again (claims t) (settle-at t) settle.Post settle-Inv-loop settle-μ-loop
@@ -211,7 +211,7 @@ settle-loop-again t c =
     let a = s .args in
     let S = splits t l in (
       raised t g .0 .standing,
-      turn-goes (jobs t s) (costs t s) (a .question .low) (a .question .high) (lp t s) (has (a .layer)) (has (a .above)) (job t l) (listed-place t l) (in-layer t l)
+      turn-goes (jobs t s) (costs t s) (a .question .range .low) (a .question .range .high) (lp t s) (has (a .layer)) (has (a .above)) (job t l) (listed-place t l) (in-layer t l)
           (has (a .pending)) (has (after t l)) (S .own) (S .off) (S .inside) (S .outside) (a .quanta) (l .loop .now) (l .loop .inv .1) (e .before .before .settle .result .quanta) (settled t e) (r .raise .result .quanta) (raised t g .0) (raised t g .1),
     )
 

@@ -35,21 +35,21 @@ bound-requires c κs = search needs
 
 returns : tie.Need-returns Inv-loop μ-loop
 returns c =
-    let t = c .before .before in
+    let t = c .before .before .before in
     let l = t .before .before .before .before in
     let s = l .before .before in
     let a = s .args in
     let L = s .pre .0 in
     let A = L .accepted in
     let k = l .loop .job in
-    let q = set (a .quanta) k (a .question .high) in
+    let q = set (a .quanta) k (a .question .range .high) in
     let kn : k < a .question .n = t .before .before .if1 .taken in
     let long : length (a .quanta) ≡ mostJobs = search needs in
     let is = c .before .bound .ensures ∙ asked-bound (a .question) (a .layer) (a .above) L q k kn in
-    λ e. out-of-reach (listed (a .question)) (listed-costs (a .question) A) (a .question .low) (a .question .high) (A .low) (has (a .layer)) (has (a .above)) k
+    λ e. out-of-reach (listed (a .question)) (listed-costs (a .question) A) (a .question .range .low) (a .question .range .high) (A .low) (has (a .layer)) (has (a .above)) k
     (omega (arith, listed-length (a .question) A)) (sym (t .before .contains .ensures) ∙ t .if2 .taken) q
-    (getD-set-same (a .quanta) k (a .question .high) 0 (omega (arith, A .few)))
-    (λ i d. getD-set-other (a .quanta) k i (a .question .high) 0 d ∙ ap (λ (v : List ℕ). getD v i 0) (s .pre .1) ∙ lowest-at (a .question) (a .layer) (a .above) L (a .question .low) i)
+    (getD-set-same (a .quanta) k (a .question .range .high) 0 (omega (arith, A .few)))
+    (λ i d. getD-set-other (a .quanta) k i (a .question .range .high) 0 d ∙ ap (λ (v : List ℕ). getD v i 0) (s .pre .1) ∙ lowest-at (a .question) (a .layer) (a .above) L (a .question .range .low) i)
     (λ p. omega (arith, is, c .if3 .taken))
 
 add-job : tie.Need-add-job Inv-loop μ-loop

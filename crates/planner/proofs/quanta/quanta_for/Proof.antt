@@ -1,51 +1,27 @@
-use mathlib.Core.Path.{sym}
-use borrow.Author.Tests.{not-true}
-use Rattle.planner.proofs.Asked.{laid, begins, ends, out}
+use Prim.Native.Nat.{ℕ}
+use mathlib.Core.Path.{_≡_, refl, _∙_}
+use mathlib.Core.List.{List}
+use Rattle.records.specs.declared.job.Job.{Job}
+use Rattle.assignment.specs.Plan.{quantaFor}
+use Rattle.planner.specs.declared.quanta.QuantaSearch.{QuantaSearch}
+use Rattle.planner.specs.declared.quanta.QuantaSearch.the-variants.{PerJob}
+use Rattle.planner.specs.Questions.{listed, findsBy}
 use borrow.Author.Needs.{needs}
 use Rattle.planner.proofs.quanta.quanta_for.Statement.{statement}
 use Rattle.planner.proofs.quanta.quanta_for.Tie as tie
 
-rest-requires : tie.Need-rest-requires
-rest-requires c κs = search needs
+quanta-per-job-requires : tie.Need-quanta-per-job-requires
+quanta-per-job-requires c κs = search needs
 
-lowest-quanta-requires : tie.Need-lowest-quanta-requires
-lowest-quanta-requires c κs = search needs
-
-is-within-reach-requires : tie.Need-is-within-reach-requires
-is-within-reach-requires c κs =
-    let s = c .before .before in
-    let a = s .args in
-    (laid (a .question) (s .pre .0) (a .left) (a .set) (s .pre .1) (s .pre .2) (c .before .rest .result) (c .before .rest .ensures), c .lowest-quanta .ensures)
+-- The one search there is.
+per-job : (search : QuantaSearch) (jobs : List Job) (low high left s : ℕ) → quantaFor jobs low high left s ≡ findsBy search jobs low high left s
+per-job PerJob jobs low high left s = refl
 
 returns : tie.Need-returns
 returns c =
-    let r = c .before .before .before in
-    let s = r .before in
-    let a = s .args in
-    sym (out (a .question) (s .pre .0) (a .left) (a .set) (s .pre .1) (s .pre .2) (r .rest .result) (r .rest .ensures) (c .before .is-within-reach .ensures (not-true _ (c .if1 .taken))))
-
-settle-requires : tie.Need-settle-requires
-settle-requires c κs =
-    let r = c .before .before .before in
-    let s = r .before in
-    let a = s .args in
-    begins (a .question) (s .pre .0) (a .left) (a .set) (s .pre .1) (s .pre .2) (r .rest .result) (r .rest .ensures) (c .before .before .lowest-quanta .result) (c .before .before .lowest-quanta .ensures)
-
-returns-2 : tie.Need-returns-2
-returns-2 c =
-    let r = c .before .before .before .before in
-    let s = r .before in
-    let a = s .args in
-    ends (a .question) (s .pre .0) (a .left) (a .set) (s .pre .1) (s .pre .2) (r .rest .result) (r .rest .ensures) (c .before .before .before .lowest-quanta .result)
-    (c .settle .result .found) (c .settle .result .quanta) (c .settle .ensures)
+    let a = c .before .args in
+    let q = a .question in
+    c .quanta-per-job .ensures ∙ per-job (q .search) (listed q) (q .range .low) (q .range .high) (a .left) (a .set)
 
 pub quanta-for-spec : {M : Type 1} → statement M
-quanta-for-spec =
-    tie.close
-    (tie.spec
-    rest-requires
-    lowest-quanta-requires
-    is-within-reach-requires
-    returns
-    settle-requires
-    returns-2)
+quanta-for-spec = tie.close (tie.spec quanta-per-job-requires returns)

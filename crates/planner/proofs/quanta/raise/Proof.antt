@@ -16,10 +16,10 @@ use Rattle.planner.proofs.quanta.raise.Statement.{statement}
 use Rattle.planner.proofs.quanta.raise.Tie as tie
 
 abbrev Inv-loop : tie.InvT-loop
-Inv-loop question layer above job workload now₀ now = Raised (listed question) (question .low) (question .high) (has layer) (has above) job now₀ now
+Inv-loop question layer above job workload now₀ now = Raised (listed question) (question .range .low) (question .range .high) (has layer) (has above) job now₀ now
 
 abbrev μ-loop : tie.MeasureT-loop
-μ-loop question layer above job workload now₀ now = question .high - getD now job 0
+μ-loop question layer above job workload now₀ now = question .range .high - getD now job 0
 
 -- What is known of the question, the layer and the job.
 module _ (c : tie.Start Inv-loop μ-loop) where
@@ -44,7 +44,7 @@ loop-holds : tie.Need-loop-holds Inv-loop μ-loop
 loop-holds c =
     let s = c .before in
     let a = s .args in
-    raised-none (jobs s) (listed-costs (a .question) (accepted s)) (a .question .low) (a .question .high) (accepted s .low) (has (a .layer)) (has (a .above)) (a .job) (a .quanta) (s .pre .1)
+    raised-none (jobs s) (listed-costs (a .question) (accepted s)) (a .question .range .low) (a .question .range .high) (accepted s .low) (has (a .layer)) (has (a .above)) (a .job) (a .quanta) (s .pre .1)
 
 bound-requires : tie.Need-bound-requires Inv-loop μ-loop
 bound-requires κs = search needs
@@ -59,11 +59,11 @@ array-read-quantum c =
 
 returns-2 : tie.Need-returns-2 Inv-loop μ-loop
 returns-2 c =
-    let e = c .before .before in
+    let e = c .before .before .before in
     let l = e .before .before in
     let s = l .before .before in
     let a = s .args in
-    past-highest (jobs s) (listed-costs (a .question) (accepted s)) (a .question .low) (a .question .high) (accepted s .low) (has (a .layer)) (has (a .above)) (a .job) (place s) (s .pre .3)
+    past-highest (jobs s) (listed-costs (a .question) (accepted s)) (a .question .range .low) (a .question .range .high) (accepted s .low) (has (a .layer)) (has (a .above)) (a .job) (place s) (s .pre .3)
     (l .loop .now) (l .loop .inv .standing) (λ p. omega (arith, found (e .before), e .if1 .left)) (omega (arith, c .if2 .taken))
 
 add-now : tie.Need-add-now Inv-loop μ-loop
@@ -71,12 +71,12 @@ add-now c = search needs
 
 array-write-now : tie.Need-array-write-now Inv-loop μ-loop
 array-write-now c =
-    let s = c .before .before .before .before .before .before in
+    let s = c .before .before .before .before .before .before .before in
     omega (arith, s .pre .2, accepted s .few)
 
 loop-less : tie.Need-loop-less Inv-loop μ-loop
 loop-less c =
-    let l = c .before .before .before .before in
+    let l = c .before .before .before .before .before in
     let s = l .before .before in
     let a = s .args in
     let e = getD-set-same (l .loop .now) (a .job) (getD (l .loop .now) (a .job) 0 + 1) 0 (omega (arith, place s, l .loop .inv .standing .long)) in
@@ -84,11 +84,11 @@ loop-less c =
 
 loop-again : tie.Need-loop-again Inv-loop μ-loop
 loop-again c =
-    let e = c .before .before in
+    let e = c .before .before .before in
     let l = e .before .before in
     let s = l .before .before in
     let a = s .args in
-    raised-next (jobs s) (listed-costs (a .question) (accepted s)) (a .question .low) (a .question .high) (accepted s .low) (has (a .layer)) (has (a .above)) (a .job) (place s) (s .pre .3)
+    raised-next (jobs s) (listed-costs (a .question) (accepted s)) (a .question .range .low) (a .question .range .high) (accepted s .low) (has (a .layer)) (has (a .above)) (a .job) (place s) (s .pre .3)
     (a .quanta) (l .loop .now) (l .loop .inv) (λ p. omega (arith, found (e .before), e .if1 .left)) (omega (arith, c .if2 .left))
 
 pub raise-spec : {M : Type 1} → statement M

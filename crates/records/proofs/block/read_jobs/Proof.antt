@@ -30,7 +30,7 @@ jobs-refused-requires c κs = search needs
 returns : tie.Need-returns
 unfolding readJobs
 returns c =
-    let s = c .before .before .before .before .before .before .args .block .now in
+    let s = c .before .before .before .before .before .before .args .jobs .now in
     c .jobs-refused .ensures
     ∙ sym (turned-by (sizeTests (length s)) (recordTests s) (jobCount s) (jobTable (jobList s)) (jobTable []) _
     (c .before .before .before .before .judge-size .ensures) _ (c .before .before .sized .given .1))
@@ -38,7 +38,7 @@ returns c =
 -- Past refusal 1.
 module _ (c : tie.After-enum-told) where
   abbrev block : List ℕ
-  block = c .before .before .before .before .args .block .now
+  block = c .before .before .before .before .args .jobs .now
 
   most : length block ≤ mostJobs * jobSize
   most = leb-true _ _ (judged-accepts (sizeTests (length block)) _ (c .before .before .judge-size .ensures) (c .enum-told .given .1) .1 .0)

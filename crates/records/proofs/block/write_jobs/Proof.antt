@@ -1,8 +1,14 @@
-use Prim.Native.Nat.{_*_}
-use mathlib.Core.Path.{sym, _∙_}
-use lib.ListN.{length}
-use Rattle.records.specs.Jobs.{jobSize, countTests, jobTests, tableTests, roomTests, jobsWritten, writeRecords, writeJobs}
-use Rattle.records.proofs.Outcomes.{turned-by, passed-by, judged-accepts, accepts-first, past}
+use Prim.Native.Nat.{ℕ, _*_, _≤_}
+use mathlib.Core.Path.{_≡_, sym, ap, _∙_}
+use lib.ListN.{length, take}
+use lib.Seq.{length-take-le}
+use native.Mathlib.Omega.{arith}
+use borrow.Author.Tests.{leb-true}
+use Rattle.records.specs.Limits.{mostJobs}
+use Rattle.records.specs.Refusals.{outcome}
+use Rattle.records.specs.Records.{written, roomTests, writeRecords}
+use Rattle.records.specs.Jobs.{jobSize, jobBytes, tableTests, writeJobs}
+use Rattle.records.proofs.Outcomes.{turned-by, passed-by, judged-accepts}
 use borrow.Author.Needs.{needs}
 use Rattle.records.proofs.block.write_jobs.Statement.{statement}
 use Rattle.records.proofs.block.write_jobs.Tie as tie
@@ -18,14 +24,14 @@ unfolding writeJobs
 returns c =
     let a = c .before .before .before .before .before .args in
     let output = a .output .now in
-    sym (turned-by (tableTests (a .n) (a .table)) (roomTests (a .n) (length output)) (jobSize * a .n) (jobsWritten (a .n) (a .table) output) output _
+    sym (turned-by (tableTests (a .n) (a .table)) (roomTests (jobSize * a .n) (length output)) (jobSize * a .n) (written jobSize jobBytes (take (a .n) (a .table)) output) output _
     (c .before .before .before .judge-table .ensures) _ (c .before .judged .given .1))
 
 enum-told : tie.Need-enum-told
 enum-told c = search needs
 
-write-records-requires : tie.Need-write-records-requires
-write-records-requires c κs = search needs
+write-unjudged-requires : tie.Need-write-unjudged-requires
+write-unjudged-requires c κs = search needs
 
 same-length : tie.Need-same-length
 same-length c = search needs
@@ -37,12 +43,12 @@ returns-2 c =
     let judge = told .before .before in
     let a = judge .before .before .args in
     let output = a .output .now in
-    let room = roomTests (a .n) (length output) in
-    let listed = judged-accepts (tableTests (a .n) (a .table)) _ (judge .judge-table .ensures) (told .enum-told .given .1) in
-    let counted = accepts-first (countTests (a .n)) (jobTests (a .n) (a .table)) listed in
-    c .before .before .write-records .ensures
-    ∙ past (countTests (a .n)) room (jobSize * a .n) (jobsWritten (a .n) (a .table) output) output counted
-    ∙ sym (passed-by (tableTests (a .n) (a .table)) room (jobSize * a .n) (jobsWritten (a .n) (a .table) output) output _ (judge .judge-table .ensures) (told .enum-told .given .1))
+    let new = written jobSize jobBytes (take (a .n) (a .table)) output in
+    let few : a .n ≤ mostJobs = leb-true _ _ (judged-accepts (tableTests (a .n) (a .table)) _ (judge .judge-table .ensures) (told .enum-told .given .1) .1 .0) in
+    let all : length (a .table) ≡ mostJobs = search needs in
+    c .before .before .write-unjudged .ensures
+    ∙ ap (λ (m : ℕ). outcome (roomTests (jobSize * m) (length output)) (jobSize * m) new output) (length-take-le (a .n) (a .table) (omega arith))
+    ∙ sym (passed-by (tableTests (a .n) (a .table)) (roomTests (jobSize * a .n) (length output)) (jobSize * a .n) new output _ (judge .judge-table .ensures) (told .enum-told .given .1))
 
 pub write-jobs-spec : {M : Type 1} → statement M
 write-jobs-spec =
@@ -52,6 +58,6 @@ write-jobs-spec =
     enum-known-judged
     returns
     enum-told
-    write-records-requires
+    write-unjudged-requires
     same-length
     returns-2)

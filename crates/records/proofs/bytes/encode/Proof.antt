@@ -3,9 +3,10 @@ use mathlib.Core.Path.{_≡_, ap, _∙_}
 use mathlib.Core.List.{_++_}
 use native.Mathlib.Omega.{arith}
 use lib.ListN.{length, drop, take}
+use lib.Seq.{length-take-le}
 use Rattle.records.specs.Records.{flat}
 use Rattle.records.specs.Jobs.{jobSize, jobBytes, blankJob, bytesOf}
-use Rattle.records.proofs.FixedWidth.{write-next}
+use Rattle.records.proofs.FixedWidth.{write-next, written-at}
 use Rattle.records.proofs.JobRecords.{job-width}
 use borrow.Author.Needs.{needs}
 use Rattle.records.proofs.bytes.encode.Statement.{statement}
@@ -64,7 +65,9 @@ returns c =
     let l = c .before .loop in
     let a = c .before .before .before .args in
     let e : l .i ≡ a .n = omega arith in
-    l .inv .2 ∙ ap (λ (k : ℕ). bytesOf (take k (a .t1)) ++ drop (jobSize * k) (a .output .now)) e
+    l .inv .2
+    ∙ ap (λ (k : ℕ). bytesOf (take k (a .t1)) ++ drop (jobSize * k) (a .output .now)) e
+    ∙ written-at jobSize jobBytes (take (a .n) (a .t1)) (a .n) (a .output .now) (length-take-le (a .n) (a .t1) (search needs))
 
 pub encode-spec : {M : Type 1} → statement M
 encode-spec =

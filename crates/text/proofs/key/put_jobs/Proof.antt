@@ -3,14 +3,14 @@ use mathlib.Core.Path.{_≡_, refl, subst}
 use native.Mathlib.Omega.{arith}
 use lib.ListN.{length}
 use Rattle.text.specs.Lines.{rowsTo, Wrote}
-use Rattle.text.specs.Keys.{bytesLine}
+use Rattle.text.specs.Keys.{jobLine}
 use Rattle.text.proofs.Writing.{then, retold, widened, nothing, rows-next}
 use borrow.Author.Needs.{needs}
 use Rattle.text.proofs.key.put_jobs.Statement.{statement}
 use Rattle.text.proofs.key.put_jobs.Tie as tie
 
 abbrev Inv-loop : tie.InvT-loop
-Inv-loop output₀ settings bounds n at₀ k₀ output at k = (k ≤ n) × (length output ≡ length output₀) × (at ≤ 55 * k) × Wrote (55 * k) output₀ output 0 at (rowsTo (bytesLine settings bounds) k)
+Inv-loop output₀ settings bounds n at₀ k₀ output at k = (k ≤ n) × (length output ≡ length output₀) × (at ≤ 55 * k) × Wrote (55 * k) output₀ output 0 at (rowsTo (jobLine settings bounds) k)
 
 abbrev μ-loop : tie.MeasureT-loop
 μ-loop output₀ settings bounds n at₀ k₀ output at k = n - k
@@ -31,8 +31,8 @@ loop-again : tie.Need-loop-again Inv-loop μ-loop
 loop-again c =
     let put = c .before .before .put-job in
     let l = c .before .before .before .before .before in
-    let a = l .before .before .before .before .args in
-    (search needs, search needs, omega (arith, put .ensures .next, put .ensures .short), widened _ (retold (then (l .loop .inv .3) (put .ensures)) (rows-next (bytesLine (a .settings .now) (a .bounds .now)) (l .loop .k))) (omega arith))
+    let a = l .before .before .args in
+    (search needs, search needs, omega (arith, put .ensures .next, put .ensures .short), widened _ (retold (then (l .loop .inv .3) (put .ensures)) (rows-next (jobLine (a .settings) (a .bounds)) (l .loop .k))) (omega arith))
 
 same-length : tie.Need-same-length Inv-loop μ-loop
 same-length c = search needs
@@ -40,9 +40,9 @@ same-length c = search needs
 returns : tie.Need-returns Inv-loop μ-loop
 returns c =
     let l = c .before .loop in
-    let a = c .before .before .before .before .before .args in
+    let a = c .before .before .before .args in
     let e : l .k ≡ a .n = omega arith in
-    widened 440 (subst (λ (j : ℕ). Wrote (55 * j) (a .output .now) (l .output) 0 (l .at) (rowsTo (bytesLine (a .settings .now) (a .bounds .now)) j)) e (l .inv .3)) (omega arith)
+    widened 440 (subst (λ (j : ℕ). Wrote (55 * j) (a .output .now) (l .output) 0 (l .at) (rowsTo (jobLine (a .settings) (a .bounds)) j)) e (l .inv .3)) (omega arith)
 
 pub put-jobs-spec : {M : Type 1} → statement M
 put-jobs-spec =

@@ -1,4 +1,4 @@
-use Rattle.text.specs.Keys.{bytesText}
+use Rattle.text.specs.Keys.{tableText}
 use Rattle.text.proofs.Writing.{then}
 use borrow.Author.Needs.{needs}
 use Rattle.text.proofs.key.put_key.Statement.{statement}
@@ -14,7 +14,7 @@ same-length : tie.Need-same-length
 same-length c = search needs
 
 returns : tie.Need-returns
-unfolding bytesText
+unfolding tableText
 returns c =
     let last = c .before .before in
     then (last .before .before .before .before .put-jobs .ensures) (last .put-last .ensures)
