@@ -62,6 +62,19 @@ pub fn record_of_setting(setting: &Setting) -> [u8; SETTING_BYTES] {
     [setting.id, setting.level, setting.policy, setting.quantum]
 }
 
+/// The settings of all whole records of some bytes, which are not judged.
+pub fn settings_of_records(bytes: &[u8]) -> Vec<Setting> {
+    bytes
+        .chunks_exact(SETTING_BYTES)
+        .map(setting_of_record)
+        .collect()
+}
+
+/// The records of settings.
+pub fn records_of_settings(settings: &[Setting]) -> Vec<u8> {
+    settings.iter().flat_map(record_of_setting).collect()
+}
+
 /// Refusal 6: "The lowest quantum is 0 or above the highest, or the highest is above 64."
 pub fn judge_range(lowest: u8, highest: u8) -> Result<QuantumRange, Refusal> {
     if lowest == 0 || lowest > highest || highest > LONGEST_QUANTUM {
@@ -142,10 +155,7 @@ pub fn settings_of_block(
     if block.len() != SETTING_BYTES * jobs.len() {
         return Err(Refusal::ConfigurationCount);
     }
-    let settings: Vec<Setting> = block
-        .chunks_exact(SETTING_BYTES)
-        .map(setting_of_record)
-        .collect();
+    let settings = settings_of_records(block);
     judge_settings(jobs, range, &settings)?;
     Ok(settings)
 }
@@ -183,10 +193,8 @@ pub fn read_configuration(
 
 /// Writes settings as records at the start of an output that is long enough.
 pub fn put_settings(settings: &[Setting], output: &mut [u8]) {
-    for (index, setting) in settings.iter().enumerate() {
-        let start = SETTING_BYTES * index;
-        output[start..start + SETTING_BYTES].copy_from_slice(&record_of_setting(setting));
-    }
+    let records = records_of_settings(settings);
+    output[..records.len()].copy_from_slice(&records);
 }
 
 /// Entry 4: writes the table's first n settings as a block and answers its length.

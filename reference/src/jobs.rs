@@ -112,10 +112,20 @@ pub fn judge_times(jobs: &[Job]) -> Result<(), Refusal> {
     Ok(())
 }
 
+/// The jobs of all whole records of some bytes, which are not judged.
+pub fn jobs_of_records(bytes: &[u8]) -> Vec<Job> {
+    bytes.chunks_exact(JOB_BYTES).map(job_of_record).collect()
+}
+
+/// The records of jobs.
+pub fn records_of_jobs(jobs: &[Job]) -> Vec<u8> {
+    jobs.iter().flat_map(record_of_job).collect()
+}
+
 /// The jobs of a block, refusals 1, 2, 3 and 5 being "sought through all records" one by one.
 pub fn jobs_of_block(block: &[u8]) -> Result<Vec<Job>, Refusal> {
     judge_block_length(block)?;
-    let jobs: Vec<Job> = block.chunks_exact(JOB_BYTES).map(job_of_record).collect();
+    let jobs = jobs_of_records(block);
     judge_identity(&jobs)?;
     judge_order(&jobs)?;
     judge_times(&jobs)?;
@@ -136,10 +146,8 @@ pub fn read_jobs(block: &[u8]) -> (Result<usize, Refusal>, JobTable) {
 
 /// Writes jobs as records at the start of an output that is long enough.
 pub fn put_jobs(jobs: &[Job], output: &mut [u8]) {
-    for (index, job) in jobs.iter().enumerate() {
-        let start = JOB_BYTES * index;
-        output[start..start + JOB_BYTES].copy_from_slice(&record_of_job(job));
-    }
+    let records = records_of_jobs(jobs);
+    output[..records.len()].copy_from_slice(&records);
 }
 
 /// Entry 2: writes the first `count` jobs of the table as a block and answers its length.

@@ -4,6 +4,7 @@
 
 pub mod configuration;
 pub mod desk;
+pub mod entries;
 pub mod frames;
 pub mod generation;
 pub mod jobs;

@@ -33,10 +33,33 @@ pub enum Refusal {
     OutputLength = 12,
 }
 
+/// All refusals in the order in which they are sought: "Each number is sought through all records
+/// before the next is tried."
+pub const REFUSALS: &[Refusal] = &[
+    Refusal::JobCount,
+    Refusal::JobIdentity,
+    Refusal::JobOrder,
+    Refusal::EditPlace,
+    Refusal::JobTimes,
+    Refusal::QuantumRange,
+    Refusal::ConfigurationCount,
+    Refusal::ConfigurationIdentity,
+    Refusal::RecordShape,
+    Refusal::LevelSharing,
+    Refusal::JobNotPlaced,
+    Refusal::OutputLength,
+];
+
 impl Refusal {
     /// "A refusal returns its number alone."
     pub fn number(self) -> u8 {
         self as u8
+    }
+
+    /// How many refusals are sought before this one.
+    pub fn place(self) -> usize {
+        let place = REFUSALS.iter().position(|refusal| *refusal == self);
+        place.expect("all refusals are sought")
     }
 }
 

@@ -6,7 +6,7 @@
 //! t + J + T, as its C is at most its T.
 
 use crate::configuration::{jobs_and_settings, Setting, FIFO, NOT_PLACED, ROUND_ROBIN};
-use crate::jobs::Job;
+use crate::jobs::{two_byte_number, Job};
 use crate::refusal::{judge_output, Refusal};
 
 /// "Bound, 2 bytes".
@@ -265,11 +265,18 @@ pub fn bounds_of_settings(jobs: &[Job], settings: &[Setting]) -> Vec<u16> {
         .collect()
 }
 
+/// The bounds of all whole records of some bytes.
+pub fn bounds_of_records(bytes: &[u8]) -> Vec<u16> {
+    bytes
+        .chunks_exact(BOUND_BYTES)
+        .map(|record| two_byte_number(record[0], record[1]))
+        .collect()
+}
+
 /// Writes bounds, high byte first, at the start of an output that is long enough.
 pub fn put_bounds(bounds: &[u16], output: &mut [u8]) {
-    for (index, bound) in bounds.iter().enumerate() {
-        let start = BOUND_BYTES * index;
-        output[start..start + BOUND_BYTES].copy_from_slice(&bound.to_be_bytes());
+    for (record, bound) in output.chunks_exact_mut(BOUND_BYTES).zip(bounds) {
+        record.copy_from_slice(&bound.to_be_bytes());
     }
 }
 

@@ -3,18 +3,16 @@
 
 mod common;
 
+use common::comparisons::plan_by_both_rules;
 use common::{
     all_bounds, any_list, bound_instance_by_instance, bound_of_instances, jobs, marked,
     near_full_list, shared_level, two_bounds_by, SettingNumbers, Times,
 };
-use reference::configuration::{setting_of_record, QuantumRange, Setting, NOT_PLACED, ROUND_ROBIN};
+use reference::configuration::{setting_of_record, Setting, NOT_PLACED, ROUND_ROBIN};
 use reference::generation::random::Random;
 use reference::generation::situations::{Situation, SITUATIONS};
 use reference::jobs::Job;
-use reference::planner::{plan_jobs, plan_jobs_within};
-use reference::response_time::{
-    bound, finish_by_search, first_run, second_bound, second_run, BoundRule, End,
-};
+use reference::response_time::{bound, finish_by_search, first_run, second_bound, second_run, End};
 
 /// The first bounds, the second bounds and the bounds of two jobs that share a level.
 fn bounds_of_two(first: Times, second: Times, quanta: [u8; 2]) -> [Vec<u16>; 3] {
@@ -190,14 +188,7 @@ fn the_planner_answers_the_same_by_the_first_bound_alone() {
     for case in 0..12_000 {
         let mut random = Random::of_case(15, case);
         let jobs = near_full_list(&mut random);
-        let lowest = random.byte(1, 3);
-        let range = QuantumRange {
-            lowest,
-            highest: random.byte(lowest, 9),
-        };
-        let plan = plan_jobs(&jobs, range);
-        let by_first = plan_jobs_within(&jobs, range, BoundRule::First, u64::MAX);
-        assert_eq!(by_first.as_ref(), Ok(&plan), "{jobs:?} {range:?}");
+        let plan = plan_by_both_rules(&mut random, &jobs);
         for (index, setting) in plan.settings.iter().enumerate() {
             if setting.policy == ROUND_ROBIN {
                 assert_eq!(second_bound(&jobs, &plan.settings, index), 0);

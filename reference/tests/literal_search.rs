@@ -5,13 +5,14 @@ mod common;
 
 use common::near_full_list;
 use reference::configuration::{judge_range, not_placed, QuantumRange, Setting};
-use reference::frames::PLAN;
+use reference::entries::PLAN;
 use reference::generation::delays::has_delay;
 use reference::generation::long_deadlines::has_long_deadline;
 use reference::generation::random::Random;
+use reference::generation::rounds::Kind;
 use reference::generation::{
-    entry_of_case, input_of_case, FIRST_DELAY_CASE, FIRST_LIGHT_NEIGHBOUR_CASE,
-    FIRST_LONG_DEADLINE_CASE,
+    cases_of_kind, entry_of_case, input_of_case, DELAYS, LIGHT_NEIGHBOURS, LONG_DEADLINES,
+    SHORT_DEADLINES,
 };
 use reference::jobs::{jobs_of_block, Job};
 use reference::planner::{members_of_set, place, plan_jobs, subsets_in_order, whole_set, Plan};
@@ -19,7 +20,6 @@ use reference::quanta::{next_quanta_list, Layer};
 use reference::response_time::{
     bound, bounds_of_settings, first_bound, jobs_above, second_bound, INSTANCES,
 };
-use std::ops::Range;
 
 /// The settings with the set taken at the level, if some quanta serve each of its jobs.
 fn settings_with_set(
@@ -91,12 +91,13 @@ fn last_time(job: &Job) -> u64 {
 
 /// The jobs and the range of a case, if it is one of the planner's that the literal search affords.
 fn affordable_case(case: usize) -> Option<(Vec<Job>, QuantumRange)> {
-    if entry_of_case(case).0 != PLAN {
+    if entry_of_case(case) != PLAN {
         return None;
     }
     let input = input_of_case(7, case);
-    let jobs = jobs_of_block(input.block_a()).ok()?;
-    let range = judge_range(input.low, input.high).ok()?;
+    let ([lowest, highest], [jobs, _, _]) = input.parts()?;
+    let jobs = jobs_of_block(jobs).ok()?;
+    let range = judge_range(lowest, highest).ok()?;
     let lists_of_one_job = u64::from(range.highest - range.lowest) + 2;
     let longest = jobs.iter().map(last_time).max()?;
     let steps = lists_of_one_job
@@ -105,41 +106,40 @@ fn affordable_case(case: usize) -> Option<(Vec<Job>, QuantumRange)> {
     (steps < 40_000_000).then_some((jobs, range))
 }
 
-/// Compares the planner with the literal search for the cases in a range of numbers, and answers
-/// how many of the lists compared are of a kind.
-fn compare(cases: Range<usize>, is_of_kind: fn(&[Job]) -> bool) -> usize {
-    let mut of_kind = 0;
-    for case in cases {
+/// Compares the planner with the literal search for the cases of a kind, and answers how many of
+/// the lists compared are as wanted.
+fn compare(kind: &Kind, is_wanted: fn(&[Job]) -> bool) -> usize {
+    let mut wanted = 0;
+    for case in cases_of_kind(kind) {
         if let Some((jobs, range)) = affordable_case(case) {
             assert_eq!(plan_jobs(&jobs, range), literal_plan(&jobs, range));
-            of_kind += usize::from(is_of_kind(&jobs));
+            wanted += usize::from(is_wanted(&jobs));
         }
     }
-    of_kind
+    wanted
 }
 
 #[test]
 fn the_planner_agrees_with_the_literal_search() {
-    let compared = compare(0..FIRST_LONG_DEADLINE_CASE, |_| true);
+    let compared = compare(&SHORT_DEADLINES, |_| true);
     assert!(compared >= 300, "{compared} lists compared");
 }
 
 #[test]
 fn the_planner_agrees_with_the_literal_search_on_long_deadlines() {
-    let cases = FIRST_LONG_DEADLINE_CASE..FIRST_LIGHT_NEIGHBOUR_CASE;
-    let with_long_deadline = compare(cases, has_long_deadline);
+    let with_long_deadline = compare(&LONG_DEADLINES, has_long_deadline);
     assert!(with_long_deadline >= 100, "{with_long_deadline} lists");
 }
 
 #[test]
 fn the_planner_agrees_with_the_literal_search_on_light_neighbours() {
-    let compared = compare(FIRST_LIGHT_NEIGHBOUR_CASE..FIRST_DELAY_CASE, |_| true);
+    let compared = compare(&LIGHT_NEIGHBOURS, |_| true);
     assert!(compared >= 30, "{compared} lists compared");
 }
 
 #[test]
 fn the_planner_agrees_with_the_literal_search_on_delays() {
-    let with_delay = compare(FIRST_DELAY_CASE..FIRST_DELAY_CASE + 900, has_delay);
+    let with_delay = compare(&DELAYS, has_delay);
     assert!(with_delay >= 60, "{with_delay} lists");
 }
 

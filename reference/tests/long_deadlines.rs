@@ -3,15 +3,15 @@
 
 mod common;
 
+use common::comparisons::assert_same_runs;
 use common::{
     any_list, bound_of_instances, demand, first_bounds, jobs, marked, planned, Planned,
     SettingNumbers, Times,
 };
 use reference::configuration::{setting_of_record, Setting, NOT_PLACED};
-use reference::generation::long_deadlines::finish_by_recurrence;
 use reference::generation::random::Random;
 use reference::jobs::Job;
-use reference::response_time::{finish_by_search, first_bound, first_run, second_run, End};
+use reference::response_time::{finish_by_search, first_bound, first_run, End};
 use reference::{bounds, key};
 
 /// Two jobs alone on their levels, the first above the second.
@@ -258,15 +258,6 @@ fn runs_by_the_recurrence_are_the_runs_by_the_search() {
         let (jobs, settings) = any_list(&mut random, longest, |random, cost, period| {
             random.ticks(cost, 20 * period)
         });
-        for index in 0..jobs.len() {
-            if settings[index].policy != NOT_PLACED {
-                for run_of_job in [first_run, second_run] {
-                    assert_eq!(
-                        run_of_job(&jobs, &settings, index, finish_by_recurrence),
-                        run_of_job(&jobs, &settings, index, finish_by_search)
-                    );
-                }
-            }
-        }
+        assert_same_runs(&jobs, &settings);
     }
 }

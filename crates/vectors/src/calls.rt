@@ -1,102 +1,109 @@
-// The calls of the entries, with their answers as an output frame has them.
+// The calls of the entries: what an input frame has given, and the output frame with what is answered and left behind.
 use crate::reply;
-use crate::reply::Reply;
 use crate::tables;
-use configuration::block::ConfigurationAnswer;
-use desk::EditAnswer;
-use marker::BoundsAnswer;
+use configuration::setting::Setting;
 use marker::MarkAnswer;
 use planner::PlanAnswer;
-use records::block::JobsAnswer;
 use records::job::Job;
 
-pub fn read_jobs(block: &[u8]) -> Reply {
-    let read = records::block::read_jobs(block);
+// The bytes of a table of settings.
+const SETTINGS: usize = Setting::SIZE * Job::MOST;
+
+pub fn read_jobs(jobs: &[u8]) {
+    let read = records::block::read_jobs(jobs);
     let answer = read.answer;
     let table = read.table;
-    let told = match answer {
-        JobsAnswer::Count(n) => reply::counted(n),
-        JobsAnswer::Refused(refusal) => reply::refused(refusal),
-    };
-    reply::with_table(told, tables::job_bytes(tables::widened(table)))
+    let mut bytes = [0u8; tables::TABLE];
+    records::block::write_unjudged(table, Job::MOST, &mut bytes);
+    reply::write_one(reply::counted(answer), &bytes);
 }
 
-pub fn write_jobs(jobs: &[u8], count: u8, output: &mut [u8]) -> Reply {
-    let table = tables::narrowed(tables::jobs_in(jobs));
-    reply::written(records::block::write_jobs(table, count as usize, &mut *output))
+pub fn write_jobs(entries: &[u8], count: u16, output: &mut [u8]) {
+    let table = records::block::read_unjudged(entries);
+    let wrote = records::block::write_jobs(table, count as usize, &mut *output);
+    reply::write_one(reply::counted(wrote), output);
 }
 
-pub fn read_configuration(jobs: &[u8], low: u8, high: u8, block: &[u8]) -> Reply {
-    let read = configuration::block::read_configuration(jobs, low, high, block);
+pub fn read_configuration(jobs: &[u8], low: u8, high: u8, configuration: &[u8]) {
+    let read = configuration::block::read_configuration(jobs, low, high, configuration);
     let answer = read.answer;
-    let table = read.table;
-    let told = match answer {
-        ConfigurationAnswer::Count(n) => reply::counted(n),
-        ConfigurationAnswer::Refused(refusal) => reply::refused(refusal),
-    };
-    reply::with_table(told, tables::setting_bytes(table))
+    let settings = read.settings;
+    let mut bytes = [0u8; SETTINGS];
+    configuration::block::write_settings(settings, Job::MOST, &mut bytes);
+    reply::write_one(reply::counted(answer), &bytes);
 }
 
 pub fn write_configuration(
     jobs: &[u8],
     low: u8,
     high: u8,
-    settings: &[u8],
-    count: u8,
+    entries: &[u8],
+    count: u16,
     output: &mut [u8],
-) -> Reply {
-    let table = tables::settings_in(settings);
-    reply::written(configuration::block::write_configuration(
+) {
+    let settings = configuration::block::read_unjudged(entries);
+    let wrote = configuration::block::write_configuration(
         jobs,
         low,
         high,
-        table,
+        settings,
         count as usize,
         &mut *output,
-    ))
+    );
+    reply::write_one(reply::counted(wrote), output);
 }
 
-pub fn bounds(jobs: &[u8], low: u8, high: u8, configuration: &[u8], output: &mut [u8]) -> Reply {
+pub fn bounds(jobs: &[u8], low: u8, high: u8, configuration: &[u8], output: &mut [u8]) {
     let answer = marker::bounds(jobs, low, high, configuration, &mut *output);
-    match answer {
-        BoundsAnswer::Done => reply::given(0, 0),
-        BoundsAnswer::Refused(refusal) => reply::refused(refusal),
-    }
+    reply::write_one(reply::judged(answer), output);
 }
 
-pub fn mark(jobs: &[u8], low: u8, high: u8, configuration: &[u8], output: &mut [u8]) -> Reply {
+pub fn mark(jobs: &[u8], low: u8, high: u8, configuration: &[u8], output: &mut [u8]) {
     let answer = marker::mark(jobs, low, high, configuration, &mut *output);
-    match answer {
-        MarkAnswer::Passes => reply::given(1, 0),
-        MarkAnswer::Fails => reply::given(0, 0),
+    let told = match answer {
+        MarkAnswer::Passes => reply::one(1),
+        MarkAnswer::Fails => reply::one(0),
         MarkAnswer::Refused(refusal) => reply::refused(refusal),
-    }
+    };
+    reply::write_one(told, output);
 }
 
-pub fn plan(jobs: &[u8], low: u8, high: u8, settings: &mut [u8], bounds: &mut [u8]) -> Reply {
-    let answer = planner::plan(jobs, low, high, &mut *settings, &mut *bounds);
-    match answer {
-        PlanAnswer::Planned(placed, considered) => reply::given(placed, considered),
+pub fn plan(jobs: &[u8], low: u8, high: u8, configuration: &mut [u8], bounds: &mut [u8]) {
+    let answer = planner::plan(jobs, low, high, &mut *configuration, &mut *bounds);
+    let told = match answer {
+        PlanAnswer::Planned(placed, considered) => reply::two(placed as u16, considered),
         PlanAnswer::Refused(refusal) => reply::refused(refusal),
-    }
+    };
+    reply::write_two(told, configuration, bounds);
 }
 
-pub fn same_bytes(a: &[u8], b: &[u8]) -> Reply {
+pub fn same_bytes(a: &[u8], b: &[u8]) {
     if same_bytes::same_bytes(a, b) {
-        return reply::given(1, 0);
+        reply::write_none(reply::one(1));
+    } else {
+        reply::write_none(reply::one(0));
     }
-    reply::given(0, 0)
 }
 
-pub fn edit(jobs: &[u8], place: u8, cost: u16, period: u16, deadline: u16) -> Reply {
-    let held = tables::jobs_in(jobs);
-    let n = jobs.len() / Job::SIZE;
-    let edited = desk::held::edit_held(held, n, place as usize, cost, period, deadline);
+pub fn edit(slice: &[u8], place: u16, cost: u16, period: u16, deadline: u16) {
+    let n = slice.len() / Job::SIZE;
+    let edited = desk::held::edit_held(
+        tables::jobs_in(slice),
+        n,
+        place as usize,
+        cost,
+        period,
+        deadline,
+    );
     let answer = edited.answer;
     let after = edited.jobs;
-    let told = match answer {
-        EditAnswer::Done => reply::given(0, 0),
-        EditAnswer::Refused(refusal) => reply::refused(refusal),
-    };
-    reply::with_table(told, tables::job_bytes(after))
+    let bytes = tables::job_bytes(after);
+    let end = tables::at_most(slice.len(), &bytes);
+    reply::write_one(reply::judged(answer), &bytes[..end]);
+}
+
+pub fn key(jobs: &[u8], low: u8, high: u8) {
+    let mut output = [0u8; text::key::SIZE];
+    let length = text::key::key(jobs, low, high, &mut output);
+    reply::write_one(reply::done(), &output[..length]);
 }

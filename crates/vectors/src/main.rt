@@ -1,161 +1,100 @@
-// Runs stored cases through every entry: input frames of 256 bytes on standard input, output frames of 256 bytes on standard output.
-// The frames are those of reference/README.md.
-ghost use Rattle.io.specs.Counts.{Counts};
+// Runs stored cases through every entry: input frames on standard input, output frames on standard output. The frames are those of
+// reference/README.md; a frame of an entry that is not known is read and not answered.
 use libc::STDIN_FILENO;
-use libc::STDOUT_FILENO;
 use records::word::word_of;
-use reply::Reply;
-use reply::TABLE;
+use tables::at_most;
 
 mod calls;
 mod reply;
 mod tables;
 
-// The entry that prints a key; the others answer in numbers.
-const KEY: u8 = 10;
-
 // The most frames that are answered.
 const MOST: u32 = 1_000_000;
 
-// The parts of an input frame; together they have 256 bytes.
-const HEAD: usize = 8;
+// An input frame's length, its entry and how many numbers it has; the numbers as bytes, and those that are used.
+const HEAD: usize = 4;
 
-const BLOCK: usize = 80;
+const NUMBERS: usize = 510;
 
-const SECOND_BLOCK: usize = 48;
+const USED: usize = 4;
 
-const OUTPUT: usize = 80;
-
-const SECOND_OUTPUT: usize = 32;
-
-const TAIL: usize = 8;
-
-// The bytes of an output frame after its head, and those of them that follow the table.
-const BODY: usize = 252;
-
-const REST: usize = BODY - OUTPUT - SECOND_OUTPUT - TABLE;
-
-// A length that a frame gives, or the region's.
-fn at_most(length: u8, region: &[u8]) -> usize
-    ensures { λ r. ⌜ Counts r (now (region .entry)) ⌝ }
-{
-    let asked = length as usize;
-    if asked < region.len() {
-        return asked;
+// Reads a block into a buffer that holds every block, where there is one more; it gives the block's length.
+fn read_block(more: bool, buffer: &mut [u8]) -> u16 {
+    if !more {
+        return 0;
     }
-    region.len()
+    let mut size = [0u8; 2];
+    io::read_full(STDIN_FILENO, &mut size);
+    let length = word_of(size[0], size[1]);
+    let end = at_most(length as usize, buffer);
+    io::read_full(STDIN_FILENO, &mut buffer[..end]);
+    length
 }
 
-fn write_reply(reply: Reply, output: &[u8], second_output: &[u8]) {
-    let head = reply::head(reply);
-    io::write_all(STDOUT_FILENO, &head);
-    io::write_all(STDOUT_FILENO, output);
-    io::write_all(STDOUT_FILENO, second_output);
-    let table = reply.table;
-    io::write_all(STDOUT_FILENO, &table);
-    io::write_all(STDOUT_FILENO, &[0u8; REST]);
+// The numbers of a frame that has `count` of them; 0 where it has fewer.
+fn read_numbers(count: u8) -> [u16; USED] {
+    let mut bytes = [0u8; NUMBERS];
+    let end = at_most(2 * count as usize, &bytes);
+    io::read_full(STDIN_FILENO, &mut bytes[..end]);
+    [
+        word_of(bytes[0], bytes[1]),
+        word_of(bytes[2], bytes[3]),
+        word_of(bytes[4], bytes[5]),
+        word_of(bytes[6], bytes[7]),
+    ]
 }
 
-fn write_key(block: &[u8], low: u8, high: u8) {
-    let mut output = [0u8; text::key::SIZE];
-    let length = text::key::key(block, low, high, &mut output);
-    let head = reply::head(reply::given((length % 256) as u8, 0));
-    io::write_all(STDOUT_FILENO, &head);
-    io::write_all(STDOUT_FILENO, &output[..BODY]);
-}
-
-// The new cost, period and deadline that an input frame ends with.
-fn edit(jobs: &[u8], place: u8, tail: [u8; TAIL]) -> Reply {
-    let cost = word_of(tail[0], tail[1]);
-    let period = word_of(tail[2], tail[3]);
-    let deadline = word_of(tail[4], tail[5]);
-    calls::edit(jobs, place, cost, period, deadline)
-}
-
-// Calls the entry of the frame's first byte.
-fn call(
-    head: [u8; HEAD],
-    a: &[u8],
-    b: &[u8],
-    output: &mut [u8],
-    second_output: &mut [u8],
-    tail: [u8; TAIL],
-) -> Reply {
-    let low = head[1];
-    let high = head[2];
-    let count = head[7];
-    match head[0] {
+// Calls the entry. The first two numbers are the range wherever there is one.
+fn call(entry: u8, numbers: [u16; USED], a: &[u8], b: &mut [u8], c: &mut [u8]) {
+    let low = (numbers[0] % 256) as u8;
+    let high = (numbers[1] % 256) as u8;
+    match entry {
         1 => calls::read_jobs(a),
-        2 => calls::write_jobs(a, count, &mut *output),
+        2 => calls::write_jobs(a, numbers[0], b),
         3 => calls::read_configuration(a, low, high, b),
-        4 => calls::write_configuration(a, low, high, b, count, &mut *output),
-        5 => calls::bounds(a, low, high, b, &mut *output),
-        6 => calls::mark(a, low, high, b, &mut *output),
-        7 => calls::plan(a, low, high, &mut *output, &mut *second_output),
+        4 => calls::write_configuration(a, low, high, b, numbers[2], c),
+        5 => calls::bounds(a, low, high, b, c),
+        6 => calls::mark(a, low, high, b, c),
+        7 => calls::plan(a, low, high, b, c),
         8 => calls::same_bytes(a, b),
-        _ => edit(a, count, tail),
+        9 => calls::edit(a, numbers[0], numbers[1], numbers[2], numbers[3]),
+        10 => calls::key(a, low, high),
+        _ => {}
     }
-}
-
-// Answers a frame whose parts have been read.
-fn answer(
-    head: [u8; HEAD],
-    block: &[u8],
-    second_block: &[u8],
-    output: &mut [u8],
-    second_output: &mut [u8],
-    tail: [u8; TAIL],
-) {
-    let a = &block[..at_most(head[3], block)];
-    if head[0] == KEY {
-        write_key(a, head[1], head[2]);
-        return;
-    }
-    let b = &second_block[..at_most(head[4], second_block)];
-    let length = at_most(head[5], output);
-    let second_length = at_most(head[6], second_output);
-    let reply = call(
-        head,
-        a,
-        b,
-        &mut output[..length],
-        &mut second_output[..second_length],
-        tail,
-    );
-    write_reply(reply, output, second_output);
 }
 
 // Reads a frame and answers it; false where the input ends.
-fn answer_next() -> bool {
+fn answer_next(a: &mut [u8], b: &mut [u8], c: &mut [u8]) -> bool {
     let mut head = [0u8; HEAD];
     if io::read_full(STDIN_FILENO, &mut head) < HEAD {
         return false;
     }
-    let mut block = [0u8; BLOCK];
-    let mut second_block = [0u8; SECOND_BLOCK];
-    let mut output = [0u8; OUTPUT];
-    let mut second_output = [0u8; SECOND_OUTPUT];
-    let mut tail = [0u8; TAIL];
-    io::read_full(STDIN_FILENO, &mut block);
-    io::read_full(STDIN_FILENO, &mut second_block);
-    io::read_full(STDIN_FILENO, &mut output);
-    io::read_full(STDIN_FILENO, &mut second_output);
-    io::read_full(STDIN_FILENO, &mut tail);
-    answer(
-        head,
-        &block,
-        &second_block,
-        &mut output,
-        &mut second_output,
-        tail,
+    let numbers = read_numbers(head[3]);
+    let mut blocks = [0u8; 1];
+    io::read_full(STDIN_FILENO, &mut blocks);
+    let a_end = read_block(0 < blocks[0], &mut *a);
+    let b_end = read_block(1 < blocks[0], &mut *b);
+    let c_end = read_block(2 < blocks[0], &mut *c);
+    let a_length = at_most(a_end as usize, a);
+    let b_length = at_most(b_end as usize, b);
+    let c_length = at_most(c_end as usize, c);
+    call(
+        head[2],
+        numbers,
+        &a[..a_length],
+        &mut b[..b_length],
+        &mut c[..c_length],
     );
     true
 }
 
 fn main() {
+    let mut a = io::large_buffer();
+    let mut b = io::large_buffer();
+    let mut c = io::large_buffer();
     let mut left = MOST;
     while left > 0 {
-        if !answer_next() {
+        if !answer_next(&mut a, &mut b, &mut c) {
             return;
         }
         left -= 1;

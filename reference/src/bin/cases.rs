@@ -3,7 +3,7 @@
 use std::process::ExitCode;
 use std::{env, fs};
 
-use reference::frames::FRAME_BYTES;
+use reference::frames::{first_difference, Frame};
 use reference::generation::cases;
 use reference::generation::summary::Summary;
 
@@ -11,42 +11,39 @@ const USAGE: &str = "usage: cases SEED COUNT INPUT OUTPUT
        cases --check SEED COUNT INPUT OUTPUT
        cases --summary SEED COUNT";
 
-/// The bytes of the input file and of the output file.
-fn files(seed: u64, count: usize) -> (Vec<u8>, Vec<u8>) {
-    let (inputs, outputs): (Vec<_>, Vec<_>) = cases(seed, count).into_iter().unzip();
-    (inputs.concat(), outputs.concat())
+/// The bytes of a file's frames.
+fn bytes_of_frames<'a>(frames: impl Iterator<Item = &'a Frame>) -> Result<Vec<Vec<u8>>, String> {
+    frames
+        .enumerate()
+        .map(|(number, frame)| {
+            frame
+                .to_bytes()
+                .map_err(|error| format!("frame {number}: {error}"))
+        })
+        .collect()
 }
 
-/// Writes both files.
-fn write(seed: u64, count: usize, input: &str, output: &str) -> Result<(), String> {
-    let (inputs, outputs) = files(seed, count);
-    for (path, bytes) in [(input, inputs), (output, outputs)] {
-        fs::write(path, bytes).map_err(|error| format!("{path}: {error}"))?;
-    }
-    Ok(())
+/// The frames of the input file and of the output file, each as its bytes.
+fn files(seed: u64, count: usize) -> Result<[Vec<Vec<u8>>; 2], String> {
+    let cases = cases(seed, count);
+    Ok([
+        bytes_of_frames(cases.iter().map(|case| &case.input))?,
+        bytes_of_frames(cases.iter().map(|case| &case.output))?,
+    ])
 }
 
-/// Checks one file against the bytes that would be written.
-fn check_file(path: &str, expected: &[u8]) -> Result<(), String> {
+/// Writes one file.
+fn write(path: &str, frames: &[Vec<u8>]) -> Result<(), String> {
+    fs::write(path, frames.concat()).map_err(|error| format!("{path}: {error}"))
+}
+
+/// Checks one file against the frames that would be written.
+fn check(path: &str, frames: &[Vec<u8>]) -> Result<(), String> {
     let found = fs::read(path).map_err(|error| format!("{path}: {error}"))?;
-    let pairs = found.chunks(FRAME_BYTES).zip(expected.chunks(FRAME_BYTES));
-    for (frame, (one, other)) in pairs.enumerate() {
-        if one != other {
-            return Err(format!("{path}: frame {frame} differs"));
-        }
+    match first_difference(&found, frames) {
+        Some(difference) => Err(format!("{path}: {difference}")),
+        None => Ok(()),
     }
-    if found.len() != expected.len() {
-        let frame = found.len().min(expected.len()) / FRAME_BYTES;
-        return Err(format!("{path}: frame {frame} is missing or not expected"));
-    }
-    Ok(())
-}
-
-/// Checks both files.
-fn check(seed: u64, count: usize, input: &str, output: &str) -> Result<(), String> {
-    let (inputs, outputs) = files(seed, count);
-    check_file(input, &inputs)?;
-    check_file(output, &outputs)
 }
 
 /// The seed and the count of the command line.
@@ -59,18 +56,22 @@ fn numbers(seed: &str, count: &str) -> Result<(u64, usize), String> {
 /// Does what the command line asks for.
 fn run(arguments: &[&str]) -> Result<(), String> {
     match arguments {
-        ["--check", seed, count, input, output] => {
-            let (seed, count) = numbers(seed, count)?;
-            check(seed, count, input, output)
-        }
         ["--summary", seed, count] => {
             let (seed, count) = numbers(seed, count)?;
             print!("{}", Summary::of_cases(&cases(seed, count)));
             Ok(())
         }
+        ["--check", seed, count, input, output] => {
+            let (seed, count) = numbers(seed, count)?;
+            let [inputs, outputs] = files(seed, count)?;
+            check(input, &inputs)?;
+            check(output, &outputs)
+        }
         [seed, count, input, output] => {
             let (seed, count) = numbers(seed, count)?;
-            write(seed, count, input, output)
+            let [inputs, outputs] = files(seed, count)?;
+            write(input, &inputs)?;
+            write(output, &outputs)
         }
         _ => Err(USAGE.to_string()),
     }

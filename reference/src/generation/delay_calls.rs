@@ -1,50 +1,75 @@
-//! Calls on lists with delays: entries 1 to 7 and the key program, most of them accepted.
+//! Calls on lists with delays, most of them accepted.
 
 use crate::configuration::QuantumRange;
-use crate::frames::{
-    Input, BOUNDS, KEY, MARK, PLAN, READ_CONFIGURATION, READ_JOBS, WRITE_CONFIGURATION, WRITE_JOBS,
+use crate::entries::edit::{edit_call, DELAY_EDITS};
+use crate::entries::{
+    bounds, key, mark, plan, read_configuration, read_jobs, write_configuration, write_jobs, EDIT,
+    READ_CONFIGURATION, WRITE_CONFIGURATION,
 };
-use crate::generation::call::takes_settings;
+use crate::generation::call::Parts;
+use crate::generation::configured::{any_configured, leave_layer_out, Configured};
 use crate::generation::delays::{
     built_with_delays, delays_change_plan, ensure_delay, list_with_effect, with_delays, LAYER_RULES,
 };
-use crate::generation::job_calls::{any_list, call_with_faults, chosen_faults, job_count, Parts};
+use crate::generation::job_calls::{any_list, Asked, CallRule, ListRule};
 use crate::generation::job_faults::with_one_bad_time;
-use crate::generation::layers::{leave_layer_out, random_settings, stuck_on_top, Configured};
+use crate::generation::layers::stuck_on_top;
 use crate::generation::light_neighbour_calls::uneven_range;
 use crate::generation::lists::range;
 use crate::generation::long_deadlines::with_long_deadlines;
 use crate::generation::plans::{list_with_outcome, Deadlines, Outcome};
 use crate::generation::random::Random;
+use crate::generation::rounds::{job_row, row, Kind, Row};
 use crate::jobs::Job;
-use crate::key::KEY_RANGE;
 use crate::planner::Plan;
+
+pub const DELAYS: Kind = Kind {
+    name: "delays",
+    cases: 900,
+    round: &ROUND,
+};
+
+/// The refusals of an entry that is given a configuration and lent an output. Refusal 2, which
+/// concerns the id alone, comes most often in this kind.
+const REFUSALS: [u8; 13] = [2, 5, 2, 8, 3, 2, 6, 9, 2, 10, 7, 1, 12];
+
+const MARKER_REFUSALS: [u8; 13] = [2, 11, 2, 5, 2, 8, 3, 2, 6, 9, 2, 10, 12];
+
+const ROUND: [Row; 9] = [
+    job_row(&RULE, 3, &read_jobs::GIVEN, 6, &[2, 5, 2, 3, 2, 1]),
+    job_row(&RULE, 3, &write_jobs::GIVEN, 6, &[2, 5, 2, 3, 2, 12, 1]),
+    job_row(
+        &RULE,
+        2,
+        &read_configuration::GIVEN,
+        6,
+        &[2, 5, 2, 8, 3, 2, 6, 9, 2, 10, 7, 1],
+    ),
+    job_row(&RULE, 2, &write_configuration::GIVEN, 6, &REFUSALS),
+    job_row(&RULE, 17, &bounds::GIVEN, 9, &REFUSALS),
+    job_row(&RULE, 14, &mark::GIVEN, 9, &MARKER_REFUSALS),
+    job_row(&RULE, 12, &plan::GIVEN, 9, &[2, 5, 2, 3, 2, 6, 12]),
+    row(EDIT, 4, |random, turn| {
+        edit_call(random, turn, &DELAY_EDITS)
+    }),
+    job_row(&RULE, 3, &key::GIVEN, 8, &[2, 5, 2, 3, 2, 1]),
+];
+
+pub const RULE: CallRule = CallRule {
+    lists: |_| &LISTS,
+    bad_times: with_one_bad_time,
+};
+
+const LISTS: ListRule = ListRule {
+    any: any_list_with_delays,
+    configured,
+    planned: |random, turn, count, fixed| {
+        list_with_outcome(random, turn, count, fixed, planner_list, are_shown_by)
+    },
+};
 
 /// A list with a wanted effect has one of so many turns.
 const TURNS_OF_EFFECTS: usize = 1_000;
-
-/// Of ten calls of an entry, so many are accepted.
-fn accepted_of_ten(entry: u8) -> usize {
-    match entry {
-        BOUNDS | MARK | PLAN => 9,
-        KEY => 8,
-        _ => 6,
-    }
-}
-
-/// The refusals that an entry's calls have in turn. Refusal 2, which concerns the id alone, comes
-/// most often.
-fn refusals_in_turn(entry: u8) -> &'static [u8] {
-    match entry {
-        READ_JOBS | KEY => &[2, 5, 2, 3, 2, 1],
-        WRITE_JOBS => &[2, 5, 2, 3, 2, 12, 1],
-        READ_CONFIGURATION => &[2, 5, 2, 8, 3, 2, 6, 9, 2, 10, 7, 1],
-        WRITE_CONFIGURATION | BOUNDS => &[2, 5, 2, 8, 3, 2, 6, 9, 2, 10, 7, 1, 12],
-        MARK => &[2, 11, 2, 5, 2, 8, 3, 2, 6, 9, 2, 10, 12],
-        PLAN => &[2, 5, 2, 3, 2, 6, 12],
-        _ => unreachable!("the other entries are given no job block and no job table"),
-    }
-}
 
 /// A list with delays of any kind, without regard to what they do.
 fn any_list_with_delays(random: &mut Random, count: usize) -> Vec<Job> {
@@ -56,9 +81,9 @@ fn any_list_with_delays(random: &mut Random, count: usize) -> Vec<Job> {
 }
 
 /// A list with a full configuration, in most cases one in which a delay has the effect in turn.
-fn configured(
+fn list_for_bounds(
     random: &mut Random,
-    ordinal: usize,
+    turn: usize,
     count: usize,
     range: QuantumRange,
 ) -> Configured {
@@ -67,10 +92,27 @@ fn configured(
     }
     if random.once_in(12) {
         let jobs = any_list_with_delays(random, count);
-        let settings = random_settings(random, &jobs, range, true);
-        return Configured { jobs, settings };
+        return any_configured(random, jobs, range, true);
     }
-    list_with_effect(random, ordinal, count, range)
+    list_with_effect(random, turn, count, range)
+}
+
+/// A list with a configuration that refusals 7 to 10 let by. What delays do shows in bounds, so the
+/// lists of entries that answer none are drawn without regard to it.
+fn configured(random: &mut Random, asked: &Asked, count: usize) -> Parts {
+    if matches!(asked.given.entry, READ_CONFIGURATION | WRITE_CONFIGURATION) {
+        let range = range(random);
+        let jobs = any_list_with_delays(random, count);
+        let full = random.once_in(2);
+        return Parts::of_list(any_configured(random, jobs, range, full), range);
+    }
+    let range = uneven_range(random);
+    let mut list = list_for_bounds(random, asked.turn, count, range);
+    let is_full = asked.is_full(random, |random| !random.once_in(8));
+    if !is_full {
+        leave_layer_out(random, &mut list.settings);
+    }
+    Parts::of_list(list, range)
 }
 
 /// A list with delays for the planner.
@@ -100,41 +142,7 @@ fn planner_list(
     }
 }
 
-/// The parts of a call before any fault is put in.
-fn parts(random: &mut Random, entry: u8, ordinal: usize, faults: &[u8]) -> Parts {
-    let count = job_count(random, faults);
-    if matches!(entry, BOUNDS | MARK) {
-        let range = uneven_range(random);
-        let mut list = configured(random, ordinal, count, range);
-        let leaves_out = faults.contains(&11) || entry == BOUNDS && random.once_in(8);
-        if leaves_out {
-            leave_layer_out(random, &mut list.settings);
-        }
-        return (list.jobs, range, list.settings);
-    }
-    let fixed = (entry == KEY).then_some(KEY_RANGE);
-    if faults.is_empty() && matches!(entry, PLAN | KEY) {
-        let is_shown =
-            |jobs: &[Job], range, plan: &Plan| delays_change_plan(jobs, range, &plan.bounds);
-        let (jobs, range) =
-            list_with_outcome(random, ordinal, count, fixed, planner_list, is_shown);
-        return (jobs, range, Vec::new());
-    }
-    let range = fixed.unwrap_or_else(|| range(random));
-    let jobs = any_list_with_delays(random, count);
-    let settings = if takes_settings(entry) {
-        let full = random.once_in(2);
-        random_settings(random, &jobs, range, full)
-    } else {
-        Vec::new()
-    };
-    (jobs, range, settings)
-}
-
-/// The call of an entry that is the `ordinal`-th of its entry, counted from 0.
-pub fn delay_call(random: &mut Random, entry: u8, ordinal: usize) -> Input {
-    let accepted = accepted_of_ten(entry);
-    let faults = chosen_faults(random, ordinal, accepted, refusals_in_turn(entry));
-    let parts = parts(random, entry, ordinal, &faults);
-    call_with_faults(random, entry, parts, &faults, with_one_bad_time)
+/// Whether the delays of a list change its plan.
+fn are_shown_by(jobs: &[Job], range: QuantumRange, plan: &Plan) -> bool {
+    delays_change_plan(jobs, range, &plan.bounds)
 }

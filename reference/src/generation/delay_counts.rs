@@ -2,21 +2,16 @@
 
 use std::fmt;
 
-use crate::configuration::{QuantumRange, Setting, NOT_PLACED};
-use crate::frames::{Frame, Input, BOUNDS, KEY, MARK, PLAN, SAME_BYTES, WRITE_JOBS};
+use crate::configuration::NOT_PLACED;
+use crate::entries::{BOUNDS, ENTRIES, KEY, MARK, PLAN};
+use crate::frames::Frame;
+use crate::generation::by_entry::{Answered, ByEntry, Counts};
 use crate::generation::delays::{delays_change_bounds, delays_change_plan, has_delay};
 use crate::generation::effects::EFFECTS;
-use crate::generation::run_counts::{configuration_of_case, write_table, ENTRIES};
-use crate::jobs::{two_byte_number, Job};
+use crate::generation::Case;
+use crate::jobs::Job;
 use crate::key::KEY_RANGE;
 use crate::planner::plan_jobs;
-
-/// One more than the largest number of an entry.
-const ENTRY_NUMBERS: usize = 11;
-
-/// The entries that answer bounds, among them the key program with its text.
-const ENTRIES_WITH_BOUNDS: [usize; 4] =
-    [BOUNDS as usize, MARK as usize, PLAN as usize, KEY as usize];
 
 /// The counts of one entry's accepted cases in which a list has a delay.
 #[derive(Clone, Copy, Debug, Default)]
@@ -29,9 +24,9 @@ pub struct EffectCounts {
     pub effects: [usize; EFFECTS.len()],
 }
 
-impl EffectCounts {
-    /// Counts an accepted case whose list has a delay.
-    fn count(&mut self, jobs: &[Job], settings: &[Setting]) {
+impl Counts for EffectCounts {
+    fn count(&mut self, answered: &Answered) {
+        let Answered { jobs, settings, .. } = answered;
         for (index, (job, setting)) in jobs.iter().zip(settings).enumerate() {
             let is_placed = setting.policy != NOT_PLACED;
             self.jobs += usize::from(is_placed && job.delay != 0);
@@ -43,10 +38,9 @@ impl EffectCounts {
         }
     }
 
-    /// The counts with their names.
-    fn lines(&self) -> [(&'static str, usize); EFFECTS.len() + 2] {
+    fn lines(&self) -> Vec<(&'static str, usize)> {
         let effects = self.effects;
-        [
+        vec![
             ("with a J above 0", self.jobs),
             ("with a J of 255", self.longest),
             ("raised by a J above, policy 1", effects[0]),
@@ -67,82 +61,61 @@ impl EffectCounts {
 /// The counts of all entries.
 #[derive(Clone, Copy, Debug, Default)]
 pub struct DelayCounts {
-    /// By the entry's number, accepted cases whose list has a delay.
-    pub lists: [usize; ENTRY_NUMBERS],
+    /// By the entry's place, accepted cases whose list has a delay.
+    pub lists: [usize; ENTRIES.len()],
     /// Of these, cases whose bounds are other ones than with every delay set to 0.
-    pub mattering: [usize; ENTRY_NUMBERS],
-    /// Of the entries that answer bounds.
-    pub entries: [EffectCounts; ENTRIES.len()],
+    pub mattering: [usize; ENTRIES.len()],
+    pub effects: ByEntry<EffectCounts>,
 }
 
-/// The jobs of an accepted case, whether a block, a table or a slice holds them.
-fn jobs_of_case(input: &Input) -> Vec<Job> {
-    match input.entry {
-        SAME_BYTES => Vec::new(),
-        WRITE_JOBS => input.job_table()[..usize::from(input.number)].to_vec(),
-        _ => input.job_slice(),
-    }
-}
-
-/// Whether the delays of an accepted case change its bounds.
-fn delays_matter(input: &Input, output: &Frame, jobs: &[Job]) -> bool {
-    match input.entry {
-        BOUNDS | MARK => delays_change_bounds(jobs, &input.setting_table()[..jobs.len()]),
-        PLAN => {
-            let range = QuantumRange {
-                lowest: input.low,
-                highest: input.high,
-            };
-            let pairs = output[84..].chunks_exact(2).take(jobs.len());
-            let bounds: Vec<u16> = pairs
-                .map(|pair| two_byte_number(pair[0], pair[1]))
-                .collect();
-            delays_change_plan(jobs, range, &bounds)
-        }
-        KEY => delays_change_plan(jobs, KEY_RANGE, &plan_jobs(jobs, KEY_RANGE).bounds),
+/// Whether the delays of an accepted case change the bounds that it answers, if it answers some.
+fn delays_matter(input: &Frame, jobs: &[Job], answered: Option<&Answered>) -> bool {
+    match (input.head, answered) {
+        (BOUNDS | MARK, Some(answered)) => delays_change_bounds(jobs, &answered.settings),
+        (PLAN, Some(answered)) => delays_change_plan(jobs, answered.range, &answered.bounds),
+        (KEY, _) => delays_change_plan(jobs, KEY_RANGE, &plan_jobs(jobs, KEY_RANGE).bounds),
         _ => false,
     }
 }
 
 impl DelayCounts {
     /// Counts an accepted case of any entry.
-    pub fn count(&mut self, input: &Input, output: &Frame) {
-        let jobs = jobs_of_case(input);
+    pub fn count(&mut self, case: &Case) {
+        let jobs = case.jobs();
         if !has_delay(&jobs) {
             return;
         }
-        let entry = usize::from(input.entry);
+        let answered = Answered::of_case(case);
+        let matter = delays_matter(&case.input, &jobs, answered.as_ref().map(|(_, it)| it));
+        let entry = case.place_of_entry();
         self.lists[entry] += 1;
-        self.mattering[entry] += usize::from(delays_matter(input, output, &jobs));
-        if let Some((place, settings)) = configuration_of_case(input, output) {
-            self.entries[place].count(&jobs, &settings);
+        self.mattering[entry] += usize::from(matter);
+        if let Some((place, answered)) = answered {
+            self.effects.entries[place].count(&answered);
         }
     }
+}
 
-    /// Writes the counts of lists by the names of the entries, and then those of effects.
-    pub fn write(
-        &self,
-        formatter: &mut fmt::Formatter<'_>,
-        names: &[&str; ENTRY_NUMBERS],
-    ) -> fmt::Result {
+impl fmt::Display for DelayCounts {
+    fn fmt(&self, formatter: &mut fmt::Formatter<'_>) -> fmt::Result {
         writeln!(
             formatter,
             "{:<24}{:>16}{:>20}",
             "accepted lists", "with a J above 0", "where a J matters"
         )?;
-        for (entry, name) in names.iter().enumerate().skip(1) {
-            let mattering = match ENTRIES_WITH_BOUNDS.contains(&entry) {
-                true => self.mattering[entry].to_string(),
-                false => "no bounds".to_string(),
+        for (place, entry) in ENTRIES.iter().enumerate() {
+            let mattering = match entry.number {
+                BOUNDS | MARK | PLAN | KEY => self.mattering[place].to_string(),
+                _ => "no bounds".to_string(),
             };
-            let lists = self.lists[entry];
+            let (name, lists) = (entry.name, self.lists[place]);
             writeln!(formatter, "{name:<24}{lists:>16}{mattering:>20}")?;
         }
         let lists: usize = self.lists.iter().sum();
         let mattering: usize = self.mattering.iter().sum();
         writeln!(formatter, "{:<24}{lists:>16}{mattering:>20}", "all")?;
         writeln!(formatter)?;
-        let lines = self.entries.map(|entry| entry.lines());
-        write_table(formatter, "jobs placed in lists with a J", lines)
+        let title = "jobs placed in lists with a J";
+        self.effects.write(formatter, title)
     }
 }

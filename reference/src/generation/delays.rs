@@ -2,12 +2,13 @@
 //! whether the delays of a list matter.
 
 use crate::configuration::{QuantumRange, Setting};
+use crate::generation::configured::Configured;
 use crate::generation::effects::{
     bound_by_recurrence, without_delays, without_other_delays, without_own_delay, Effect, EFFECTS,
 };
-use crate::generation::layers::{add_layer, built, Configured, DelayRule, Drawing, LayerRule};
+use crate::generation::layers::{built, DelayRule, Drawing, LayerRule, UP_TO_PERIODS};
 use crate::generation::light_neighbours::{list_with_wanted_situation, Wanted as WantedSituation};
-use crate::generation::long_deadlines::{add_layer_with_long_deadlines, first_run_by_recurrence};
+use crate::generation::long_deadlines::{first_run_by_recurrence, ABOVE_PERIODS};
 use crate::generation::plans::{affordable_plan, Deadlines};
 use crate::generation::random::Random;
 use crate::generation::runs::{list_with_wanted_run, Wanted, LAST};
@@ -85,24 +86,15 @@ pub fn ensure_delay(random: &mut Random, jobs: &mut [Job]) {
     }
 }
 
-/// Adds a layer by a rule, its jobs having delays.
-fn add_with_delays(
-    random: &mut Random,
-    list: &mut Configured,
-    size: usize,
-    drawing: Drawing,
-    add_layer: LayerRule,
-) -> bool {
-    let delay = random.choose(&DELAYS);
-    add_layer(random, list, size, Drawing { delay, ..drawing })
-}
-
-/// The rules that add a layer whose jobs have delays: one with deadlines up to periods, and one
-/// with deadlines above periods as well.
+/// Layers with delays: with deadlines up to periods, and with deadlines above periods as well.
 pub const LAYER_RULES: [LayerRule; 2] = [
-    |random, list, size, drawing| add_with_delays(random, list, size, drawing, add_layer),
-    |random, list, size, drawing| {
-        add_with_delays(random, list, size, drawing, add_layer_with_long_deadlines)
+    LayerRule {
+        delay: |random| random.choose(&DELAYS),
+        ..UP_TO_PERIODS
+    },
+    LayerRule {
+        delay: |random| random.choose(&DELAYS),
+        ..ABOVE_PERIODS
     },
 ];
 

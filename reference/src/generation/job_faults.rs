@@ -119,6 +119,23 @@ pub fn with_one_bad_time(random: &mut Random, job: &Job) -> Job {
     bad
 }
 
+/// A block's length with a fault for the first draws: empty, unless the call is to keep the faults
+/// of its records, and some bytes less or more than whole records. None for the other draws.
+pub fn broken_length(
+    random: &mut Random,
+    draw: usize,
+    whole: usize,
+    record_bytes: usize,
+    may_be_empty: bool,
+) -> Option<usize> {
+    match draw {
+        0 if may_be_empty => Some(0),
+        1 => Some(whole - random.between(1, record_bytes - 1)),
+        2 => Some(whole + random.between(1, record_bytes - 1)),
+        _ => None,
+    }
+}
+
 /// Refusal 1: a table's count, or a block's length. A call that is to keep the faults of its
 /// records is not emptied.
 fn put_count_fault(random: &mut Random, call: &mut Call, may_be_empty: bool) {
@@ -130,13 +147,11 @@ fn put_count_fault(random: &mut Random, call: &mut Call, may_be_empty: bool) {
         };
         return;
     }
-    let whole = call.job_length;
-    match random.below(6) {
-        0 if may_be_empty => call.job_length = 0,
-        1 => call.job_length = whole - random.between(1, JOB_BYTES - 1),
-        2 => call.job_length = whole + random.between(1, JOB_BYTES - 1),
-        3 => lengthen(call, MOST_JOBS + 2),
-        _ => lengthen(call, MOST_JOBS + 1),
+    let draw = random.below(6);
+    match broken_length(random, draw, call.job_length, JOB_BYTES, may_be_empty) {
+        Some(length) => call.job_length = length,
+        None if draw == 3 => lengthen(call, MOST_JOBS + 2),
+        None => lengthen(call, MOST_JOBS + 1),
     }
 }
 

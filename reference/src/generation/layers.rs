@@ -1,24 +1,21 @@
 //! Lists built layer by layer together with a configuration that passes, with deadlines at the
-//! first bounds or close to them; and configurations put on a list at random.
+//! first bounds or close to them.
 
-use crate::configuration::{not_placed, QuantumRange, Setting, FIFO, NOT_PLACED, ROUND_ROBIN};
+use crate::configuration::{QuantumRange, Setting, FIFO, ROUND_ROBIN};
+use crate::generation::configured::{any_configured, member_setting, mixed, reorder, Configured};
 use crate::generation::lists::{give_ids, job_of_times, light, stretched, SCALES};
 use crate::generation::random::Random;
 use crate::jobs::{Job, LONGEST_PERIOD};
 use crate::response_time::first_bound;
 
-/// How often a list is built anew when some job would have no first bound.
+/// How often a list is built anew when there are no times for some job.
 const ATTEMPTS: usize = 60;
-
-/// Jobs, and a configuration of theirs.
-#[derive(Default)]
-pub struct Configured {
-    pub jobs: Vec<Job>,
-    pub settings: Vec<Setting>,
-}
 
 /// A rule that draws the delay of a job.
 pub type DelayRule = fn(&mut Random) -> u8;
+
+/// The rule of jobs without delays.
+pub const NO_DELAY: DelayRule = |_| 0;
 
 /// What the jobs of a layer are drawn from.
 #[derive(Clone, Copy)]
@@ -36,29 +33,28 @@ impl Drawing {
         Drawing {
             range,
             scale,
-            delay: |_| 0,
+            delay: NO_DELAY,
         }
     }
 }
 
-/// A rule that adds a layer of so many jobs below all others; false if a job would have no first
-/// bound.
-pub type LayerRule = fn(&mut Random, &mut Configured, usize, Drawing) -> bool;
+/// A rule that gives the job at an index its period and its deadline, the layers above and the
+/// costs of its own layer being drawn; false if there are none that it wants.
+pub type TimesRule = fn(&mut Random, &mut Configured, usize) -> bool;
 
-/// The setting of a member of a layer of so many jobs.
-pub fn member_setting(random: &mut Random, level: u8, size: usize, range: QuantumRange) -> Setting {
-    let (policy, quantum) = if size == 1 {
-        (FIFO, 0)
-    } else {
-        (ROUND_ROBIN, random.byte(range.lowest, range.highest))
-    };
-    Setting {
-        id: 0,
-        level,
-        policy,
-        quantum,
-    }
+/// How the layers of a list are drawn.
+#[derive(Clone, Copy)]
+pub struct LayerRule {
+    /// Draws the rule for the delays of a layer's jobs.
+    pub delay: fn(&mut Random) -> DelayRule,
+    pub times: TimesRule,
 }
+
+/// Layers without delays whose deadlines are up to the periods.
+pub const UP_TO_PERIODS: LayerRule = LayerRule {
+    delay: |_| NO_DELAY,
+    times: times_up_to_period,
+};
 
 /// Adds the jobs of a layer below all others, with the longest times, and answers the place of the
 /// first.
@@ -83,72 +79,70 @@ pub fn add_members(
     start
 }
 
-/// Adds a layer below all others. Its deadlines are the first bounds or a little more, and no
-/// deadline is above its period; false if a job would have no first bound.
+/// A period from a least one on for the job at an index. The jobs of a shared level would often
+/// fit alone, one below the other, if they had long periods, so most have the least.
+pub fn period_from(random: &mut Random, list: &Configured, index: usize, least: u16) -> u16 {
+    let is_shared = list.settings[index].policy == ROUND_ROBIN;
+    if is_shared && !random.once_in(3) {
+        least
+    } else {
+        stretched(random, least)
+    }
+}
+
+/// A deadline at a bound or a little above it.
+pub fn deadline_from(random: &mut Random, bound: u16) -> u16 {
+    bound.saturating_add(random.choose(&[0, 0, 0, 1, 2, bound / 8]))
+}
+
+/// The deadline is the first bound or a little more, and not above the period; false if there is no
+/// first bound.
+fn times_up_to_period(random: &mut Random, list: &mut Configured, index: usize) -> bool {
+    let bound = first_bound(&list.jobs, &list.settings, index);
+    if bound == 0 {
+        return false;
+    }
+    let deadline = deadline_from(random, bound).min(LONGEST_PERIOD);
+    list.jobs[index].deadline = deadline;
+    list.jobs[index].period = period_from(random, list, index, deadline);
+    true
+}
+
+/// Adds a layer of so many jobs below all others; false if the rule has no times for a job.
 pub fn add_layer(
     random: &mut Random,
     list: &mut Configured,
     size: usize,
     drawing: Drawing,
+    times: TimesRule,
 ) -> bool {
-    for index in add_members(random, list, size, drawing)..list.jobs.len() {
-        let bound = first_bound(&list.jobs, &list.settings, index);
-        if bound == 0 {
-            return false;
-        }
-        let slack = random.choose(&[0, 0, 0, 1, 2, bound / 8]);
-        let deadline = bound.saturating_add(slack).min(LONGEST_PERIOD);
-        list.jobs[index].deadline = deadline;
-        // A layer's jobs with long periods would often fit alone, one below the other.
-        list.jobs[index].period = if size > 1 && !random.once_in(3) {
-            deadline
-        } else {
-            stretched(random, deadline)
-        };
-    }
-    true
+    let start = add_members(random, list, size, drawing);
+    (start..list.jobs.len()).all(|index| times(random, list, index))
 }
 
-/// Adds layers until the list has so many jobs; none if a job would have no first bound.
+/// Adds layers until the list has so many jobs; none if the rule has no times for a job.
 fn add_layers(
     random: &mut Random,
     mut list: Configured,
     count: usize,
     range: QuantumRange,
-    add_layer: LayerRule,
+    rule: LayerRule,
 ) -> Option<Configured> {
-    let drawing = Drawing::without_delays(range, random.choose(&SCALES));
+    let scale = random.choose(&SCALES);
     while list.jobs.len() < count {
         let left = count - list.jobs.len();
         let size = random.choose(&[1, 1, 2, 2, 3, 4]).min(left);
-        if !add_layer(random, &mut list, size, drawing) {
+        let delay = (rule.delay)(random);
+        let drawing = Drawing {
+            range,
+            scale,
+            delay,
+        };
+        if !add_layer(random, &mut list, size, drawing, rule.times) {
             return None;
         }
     }
     Some(list)
-}
-
-/// Levels that rise from 1 to n with the layers but may leave some out.
-pub fn skip_levels(random: &mut Random, settings: &mut [Setting]) {
-    let layers = settings.iter().map(|setting| setting.level).max();
-    let levels = random.distinct(usize::from(layers.unwrap_or(0)), settings.len());
-    for setting in settings {
-        if setting.level != 0 {
-            setting.level = levels[usize::from(setting.level) - 1] as u8 + 1;
-        }
-    }
-}
-
-/// Puts jobs and settings into one new order and gives them ids.
-pub fn reorder(random: &mut Random, list: Configured) -> Configured {
-    let mut pairs: Vec<(Job, Setting)> = list.jobs.into_iter().zip(list.settings).collect();
-    random.shuffle(&mut pairs);
-    let (mut jobs, mut settings): (Vec<Job>, Vec<Setting>) = pairs.into_iter().unzip();
-    give_ids(random, &mut jobs);
-    for (setting, job) in settings.iter_mut().zip(&jobs) {
-        setting.id = job.id;
-    }
-    Configured { jobs, settings }
 }
 
 /// A list with a full configuration that passes. If no attempt gives one, it is a light list with
@@ -157,18 +151,16 @@ pub fn built(
     random: &mut Random,
     count: usize,
     range: QuantumRange,
-    add_layer: LayerRule,
+    rule: LayerRule,
 ) -> Configured {
     for _ in 0..ATTEMPTS {
-        if let Some(mut list) = add_layers(random, Configured::default(), count, range, add_layer) {
-            skip_levels(random, &mut list.settings);
-            return reorder(random, list);
+        if let Some(list) = add_layers(random, Configured::default(), count, range, rule) {
+            return mixed(random, list);
         }
     }
     let mut jobs = light(random, count);
     give_ids(random, &mut jobs);
-    let settings = random_settings(random, &jobs, range, true);
-    Configured { jobs, settings }
+    any_configured(random, jobs, range, true)
 }
 
 /// Two layers of one short job each.
@@ -194,63 +186,16 @@ pub fn stuck_on_top(
     random: &mut Random,
     count: usize,
     range: QuantumRange,
-    add_layer: LayerRule,
+    rule: LayerRule,
 ) -> Vec<Job> {
     for _ in 0..ATTEMPTS {
         let top = two_short_jobs(random);
-        if let Some(mut list) = add_layers(random, top, count, range, add_layer) {
+        if let Some(mut list) = add_layers(random, top, count, range, rule) {
             for job in &mut list.jobs[..2] {
                 job.deadline = job.cost;
             }
             return reorder(random, list).jobs;
         }
     }
-    built(random, count, range, add_layer).jobs
-}
-
-/// Any configuration of a list, full or with at least one job not placed.
-pub fn random_settings(
-    random: &mut Random,
-    jobs: &[Job],
-    range: QuantumRange,
-    full: bool,
-) -> Vec<Setting> {
-    let count = jobs.len();
-    let levels = random.between(1, count);
-    let left_out = random.below(count);
-    let chosen: Vec<u8> = (0..count)
-        .map(|index| {
-            if !full && (index == left_out || random.once_in(3)) {
-                0
-            } else {
-                random.between(1, levels) as u8
-            }
-        })
-        .collect();
-    let mut settings = Vec::new();
-    for (job, level) in jobs.iter().zip(&chosen) {
-        if *level == 0 {
-            settings.push(not_placed(job));
-            continue;
-        }
-        let size = chosen.iter().filter(|other| *other == level).count();
-        let mut setting = member_setting(random, *level, size, range);
-        setting.id = job.id;
-        settings.push(setting);
-    }
-    skip_levels(random, &mut settings);
-    settings
-}
-
-/// Takes one whole layer of a configuration out, so that its jobs are not placed.
-pub fn leave_layer_out(random: &mut Random, settings: &mut [Setting]) {
-    let levels: Vec<u8> = settings.iter().map(|setting| setting.level).collect();
-    let level = random.choose(&levels);
-    for setting in settings {
-        if setting.level == level {
-            setting.level = 0;
-            setting.policy = NOT_PLACED;
-            setting.quantum = 0;
-        }
-    }
+    built(random, count, range, rule).jobs
 }

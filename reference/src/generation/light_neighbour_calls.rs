@@ -2,16 +2,46 @@
 //! bounds, marks, plans and keys, all of them accepted.
 
 use crate::configuration::{QuantumRange, LONGEST_QUANTUM};
-use crate::frames::{Input, BOUNDS, KEY, PLAN};
-use crate::generation::call::Call;
-use crate::generation::job_calls::Parts;
-use crate::generation::layers::leave_layer_out;
+use crate::entries::{bounds, key, mark, plan, BOUNDS, KEY, MARK, PLAN};
+use crate::frames::Frame;
+use crate::generation::call::{Call, Given, Parts};
+use crate::generation::configured::leave_layer_out;
 use crate::generation::light_neighbours::list_with_situation;
 use crate::generation::lists::range;
 use crate::generation::plans::{affordable, planner_list, Deadlines};
 use crate::generation::random::Random;
+use crate::generation::rounds::{row, Kind, Row};
 use crate::jobs::MOST_JOBS;
 use crate::key::KEY_RANGE;
+
+pub const LIGHT_NEIGHBOURS: Kind = Kind {
+    name: "light neighbours",
+    cases: 900,
+    round: &ROUND,
+};
+
+const ROUND: [Row; 4] = [
+    row(BOUNDS, 26, |random, turn| {
+        let mut parts = configured(random, turn);
+        if random.once_in(6) {
+            leave_layer_out(random, &mut parts.settings);
+        }
+        call(random, &bounds::GIVEN, &parts)
+    }),
+    row(MARK, 22, |random, turn| {
+        let parts = configured(random, turn);
+        call(random, &mark::GIVEN, &parts)
+    }),
+    row(PLAN, 10, |random, turn| {
+        let parts = planned(random, turn);
+        call(random, &plan::GIVEN, &parts)
+    }),
+    row(KEY, 2, |random, turn| {
+        let count = job_count(random);
+        let list = list_with_situation(random, turn, count, KEY_RANGE);
+        call(random, &key::GIVEN, &Parts::of_jobs(list.jobs, KEY_RANGE))
+    }),
+];
 
 /// A quantum range, mostly one from small quanta to large ones.
 pub fn uneven_range(random: &mut Random) -> QuantumRange {
@@ -24,40 +54,33 @@ pub fn uneven_range(random: &mut Random) -> QuantumRange {
     }
 }
 
-/// The jobs and the range of a planner's call. As the planner puts a job alone wherever it can,
-/// most lists with light neighbours get no shared level; every third list is drawn for its outcome.
-fn planner_parts(random: &mut Random, ordinal: usize, count: usize) -> Parts {
-    if ordinal % 3 == 2 {
+/// A number of jobs with which a level can be shared.
+fn job_count(random: &mut Random) -> usize {
+    random.between(2, MOST_JOBS)
+}
+
+/// Jobs with a full configuration, and the range.
+fn configured(random: &mut Random, turn: usize) -> Parts {
+    let count = job_count(random);
+    let range = uneven_range(random);
+    Parts::of_list(list_with_situation(random, turn, count, range), range)
+}
+
+/// Jobs and a range for the planner. As the planner puts a job alone wherever it can, most lists
+/// with light neighbours get no shared level; every third list is drawn for its outcome.
+fn planned(random: &mut Random, turn: usize) -> Parts {
+    let count = job_count(random);
+    if turn % 3 == 2 {
         let deadlines = random.choose(&[Deadlines::UpToPeriods, Deadlines::AbovePeriods]);
-        let (jobs, range) = planner_list(random, ordinal / 3, count, None, deadlines);
-        return (jobs, range, Vec::new());
+        let (jobs, range) = planner_list(random, turn / 3, count, None, deadlines);
+        return Parts::of_jobs(jobs, range);
     }
     let range = uneven_range(random);
-    let jobs = list_with_situation(random, ordinal, count, range).jobs;
+    let jobs = list_with_situation(random, turn, count, range).jobs;
     let (range, _) = affordable(&jobs, range);
-    (jobs, range, Vec::new())
+    Parts::of_jobs(jobs, range)
 }
 
-/// The jobs, the range and the settings of a call.
-fn parts(random: &mut Random, entry: u8, ordinal: usize) -> Parts {
-    let count = random.between(2, MOST_JOBS);
-    if entry == PLAN {
-        return planner_parts(random, ordinal, count);
-    }
-    if entry == KEY {
-        let list = list_with_situation(random, ordinal, count, KEY_RANGE);
-        return (list.jobs, KEY_RANGE, Vec::new());
-    }
-    let range = uneven_range(random);
-    let mut list = list_with_situation(random, ordinal, count, range);
-    if entry == BOUNDS && random.once_in(6) {
-        leave_layer_out(random, &mut list.settings);
-    }
-    (list.jobs, range, list.settings)
-}
-
-/// The call of an entry that is the `ordinal`-th of its entry, counted from 0.
-pub fn light_neighbour_call(random: &mut Random, entry: u8, ordinal: usize) -> Input {
-    let (jobs, range, settings) = parts(random, entry, ordinal);
-    Call::new(random, entry, &jobs, range, &settings).into_input(random)
+fn call(random: &mut Random, given: &'static Given, parts: &Parts) -> Frame {
+    Call::new(random, given, parts).into_input(random)
 }

@@ -2,9 +2,8 @@
 //! job shares its level, mostly with neighbours that have far less work than quanta.
 
 use crate::configuration::QuantumRange;
-use crate::generation::layers::{
-    add_layer, add_members, built, reorder, skip_levels, Configured, Drawing,
-};
+use crate::generation::configured::{first_drawn, Configured};
+use crate::generation::layers::{add_layer, add_members, built, Drawing, UP_TO_PERIODS};
 use crate::generation::lists::stretched;
 use crate::generation::long_deadlines::{
     first_run_by_recurrence, least_period, second_run_by_recurrence, set_period, RunOfJob,
@@ -15,12 +14,6 @@ use crate::generation::runs::add_upper_jobs;
 use crate::generation::situations::{two_bounds, Situation};
 use crate::jobs::{LONGEST_DEADLINE, LONGEST_PERIOD};
 use crate::response_time::lesser_bound;
-
-/// How often a list is drawn until the two bounds stand as wanted.
-const ATTEMPTS: usize = 320;
-
-/// After so many draws the list drawn has one job less.
-const ATTEMPTS_OF_ONE_LENGTH: usize = 40;
 
 /// Scales of costs in turn, from single ticks up to costs of thousands of ticks.
 const SCALES: [u16; 7] = [1, 20, 1, 4, 1, 100, 4];
@@ -241,27 +234,25 @@ fn drawn(random: &mut Random, count: usize, wanted: Wanted) -> Option<Configured
     let mut list = Configured::default();
     let is_drawn = add_upper_layers(random, &mut list, left - lower, wanted)
         && add_uneven_layer(random, &mut list, size, wanted)
-        && (lower == 0 || add_layer(random, &mut list, lower, wanted.drawing));
+        && (lower == 0
+            || add_layer(
+                random,
+                &mut list,
+                lower,
+                wanted.drawing,
+                UP_TO_PERIODS.times,
+            ));
     is_drawn.then_some(list)
 }
 
 /// A list of two jobs or more with a full configuration, in which one job that shares its level is
-/// in a wanted situation; none if no draw gives one. The length falls with the attempts.
+/// in a wanted situation; none if no draw gives one.
 pub fn list_with_wanted_situation(
     random: &mut Random,
     wanted: Wanted,
     count: usize,
 ) -> Option<Configured> {
-    for attempt in 0..ATTEMPTS {
-        let count = count
-            .saturating_sub(attempt / ATTEMPTS_OF_ONE_LENGTH)
-            .max(2);
-        if let Some(mut list) = drawn(random, count, wanted) {
-            skip_levels(random, &mut list.settings);
-            return Some(reorder(random, list));
-        }
-    }
-    None
+    first_drawn(random, count, |random, count| drawn(random, count, wanted))
 }
 
 /// A list without delays in which one job that shares its level is in the situation that is in
@@ -279,5 +270,5 @@ pub fn list_with_situation(
         drawing: Drawing::without_delays(range, SCALES[turn % SCALES.len()]),
     };
     list_with_wanted_situation(random, wanted, count)
-        .unwrap_or_else(|| built(random, count, range, add_layer))
+        .unwrap_or_else(|| built(random, count, range, UP_TO_PERIODS))
 }

@@ -2,8 +2,8 @@
 //! instances.
 
 use crate::configuration::Setting;
-use crate::generation::layers::{add_members, Configured, Drawing};
-use crate::generation::lists::stretched;
+use crate::generation::configured::Configured;
+use crate::generation::layers::{deadline_from, period_from, LayerRule, NO_DELAY};
 use crate::generation::random::Random;
 use crate::jobs::{Job, LONGEST_DEADLINE, LONGEST_PERIOD};
 use crate::response_time::{
@@ -130,34 +130,28 @@ pub fn least_period(
     Some(most)
 }
 
-/// Adds a layer below all others. Its periods are the least with which the first runs close by some
-/// instance, or longer ones; its deadlines are the first bounds, a little more, or above the
-/// period. False if a first run does not close.
-pub fn add_layer_with_long_deadlines(
-    random: &mut Random,
-    list: &mut Configured,
-    size: usize,
-    drawing: Drawing,
-) -> bool {
-    for index in add_members(random, list, size, drawing)..list.jobs.len() {
-        let instance = random.choose(&[0, 0, 1, 2, 6]);
-        let Some(least) = least_period(list, index, instance, first_run_by_recurrence) else {
-            return false;
-        };
-        // A layer's jobs with long periods would often fit alone, one below the other.
-        let period = if size > 1 && !random.once_in(3) {
-            least
-        } else {
-            stretched(random, least)
-        };
-        let bound = set_period(list, index, period).bound();
-        let slack = random.choose(&[0, 0, 0, 1, 2, bound / 8]);
-        let deadline = if random.once_in(4) {
-            deadline_beyond(random, period).max(bound)
-        } else {
-            bound.saturating_add(slack)
-        };
-        list.jobs[index].deadline = deadline.min(LONGEST_DEADLINE);
-    }
+/// Layers without delays, most of whose deadlines may be above the periods.
+pub const ABOVE_PERIODS: LayerRule = LayerRule {
+    delay: |_| NO_DELAY,
+    times: times_above_period,
+};
+
+/// The period is the least with which the first run closes by some instance, or a longer one; the
+/// deadline is the first bound, a little more, or above the period. False if the first run does not
+/// close.
+fn times_above_period(random: &mut Random, list: &mut Configured, index: usize) -> bool {
+    let instance = random.choose(&[0, 0, 1, 2, 6]);
+    let Some(least) = least_period(list, index, instance, first_run_by_recurrence) else {
+        return false;
+    };
+    let period = period_from(random, list, index, least);
+    let bound = set_period(list, index, period).bound();
+    let close = deadline_from(random, bound);
+    let deadline = if random.once_in(4) {
+        deadline_beyond(random, period).max(bound)
+    } else {
+        close
+    };
+    list.jobs[index].deadline = deadline.min(LONGEST_DEADLINE);
     true
 }

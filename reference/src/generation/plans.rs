@@ -1,13 +1,12 @@
 //! Lists and ranges for the planner, drawn until the planner's outcome is the one wanted.
 
 use crate::configuration::{QuantumRange, Setting, NOT_PLACED, ROUND_ROBIN};
-use crate::generation::layers::{add_layer, built, stuck_on_top, Configured};
+use crate::generation::configured::Configured;
+use crate::generation::layers::{built, stuck_on_top, UP_TO_PERIODS};
 use crate::generation::lists::{
     equal, give_ids, heavy, light, near_full, range, small, stuck, worked,
 };
-use crate::generation::long_deadlines::{
-    add_layer_with_long_deadlines, has_long_deadline, with_long_deadlines,
-};
+use crate::generation::long_deadlines::{has_long_deadline, with_long_deadlines, ABOVE_PERIODS};
 use crate::generation::random::Random;
 use crate::generation::runs::list_with_run;
 use crate::jobs::Job;
@@ -93,13 +92,13 @@ fn list(
         (1 | 2, None | Some(Outcome::NothingPlaced)) => heavy(random, count),
         (3 | 4, _) => near_full(random, count),
         (0..=2, Some(Outcome::StoppedShort)) | (_, Some(Outcome::StoppedShortSharing)) => {
-            return stuck_on_top(random, count, range, add_layer)
+            return stuck_on_top(random, count, range, UP_TO_PERIODS)
         }
         (5, _) => stuck(random, count),
         (6, _) => equal(random, count),
         (7, _) => small(random, count),
         (8 | 9, _) => worked(random, count),
-        _ => return built(random, count, range, add_layer).jobs,
+        _ => return built(random, count, range, UP_TO_PERIODS).jobs,
     };
     give_ids(random, &mut jobs);
     jobs
@@ -145,7 +144,7 @@ fn list_with_long_deadlines(
 ) -> Vec<Job> {
     let mut jobs = match (random.below(12), wanted) {
         (0..=2, Some(Outcome::StoppedShort)) | (_, Some(Outcome::StoppedShortSharing)) => {
-            return stuck_on_top(random, count, range, add_layer_with_long_deadlines)
+            return stuck_on_top(random, count, range, ABOVE_PERIODS)
         }
         (0..=8, None | Some(Outcome::PlacedAlone)) | (0 | 1, Some(Outcome::NothingPlaced)) => {
             let turn = random.below(TURNS_OF_RUNS);
@@ -157,7 +156,7 @@ fn list_with_long_deadlines(
         (5 | 8, _) => small(random, count),
         (6 | 9, _) => worked(random, count),
         (10, _) => equal(random, count),
-        _ => return built(random, count, range, add_layer_with_long_deadlines).jobs,
+        _ => return built(random, count, range, ABOVE_PERIODS).jobs,
     };
     jobs = with_long_deadlines(random, jobs);
     give_ids(random, &mut jobs);
@@ -186,6 +185,9 @@ pub fn affordable(jobs: &[Job], mut range: QuantumRange) -> (QuantumRange, Plan)
     }
 }
 
+/// A list for the planner, and the range in which it is planned.
+pub type ListAndRange = (Vec<Job>, QuantumRange);
+
 /// The fewest jobs that can have an outcome.
 fn least_jobs(wanted: Option<Outcome>) -> usize {
     match wanted {
@@ -205,7 +207,7 @@ pub fn list_with_outcome(
     fixed: Option<QuantumRange>,
     draw: impl Fn(&mut Random, usize, QuantumRange, Option<Outcome>) -> Vec<Job>,
     is_shown: impl Fn(&[Job], QuantumRange, &Plan) -> bool,
-) -> (Vec<Job>, QuantumRange) {
+) -> ListAndRange {
     let wanted = WANTED[ordinal % WANTED.len()];
     let mut attempts = 0;
     loop {
@@ -239,7 +241,7 @@ pub fn planner_list(
     count: usize,
     fixed: Option<QuantumRange>,
     deadlines: Deadlines,
-) -> (Vec<Job>, QuantumRange) {
+) -> ListAndRange {
     list_with_outcome(
         random,
         ordinal,

@@ -45,6 +45,15 @@ impl Random {
         self.between(usize::from(least), usize::from(most)) as u16
     }
 
+    /// So many ticks, one more or one less.
+    pub fn about(&mut self, ticks: u16) -> u16 {
+        match self.below(3) {
+            0 => ticks,
+            1 => ticks + 1,
+            _ => ticks.saturating_sub(1),
+        }
+    }
+
     /// True once in so many times.
     pub fn once_in(&mut self, times: usize) -> bool {
         self.below(times) == 0
@@ -71,10 +80,13 @@ impl Random {
         numbers
     }
 
-    /// Bytes that are not 0, so that a change to 0 shows.
-    pub fn fill(&mut self, bytes: &mut [u8]) {
-        for byte in bytes {
-            *byte = self.byte(1, 255);
-        }
+    /// So many bytes that are not 0, so that a change to 0 shows.
+    pub fn filled(&mut self, count: usize) -> Vec<u8> {
+        (0..count).map(|_| self.byte(1, u8::MAX)).collect()
+    }
+
+    /// So many bytes.
+    pub fn any_bytes(&mut self, count: usize) -> Vec<u8> {
+        (0..count).map(|_| self.byte(0, u8::MAX)).collect()
     }
 }

@@ -1,16 +1,11 @@
 //! What the first runs of jobs with deadlines above their periods show in accepted cases.
 
-use std::fmt;
-
-use crate::configuration::{setting_of_record, Setting, NOT_PLACED, ROUND_ROBIN, SETTING_BYTES};
-use crate::frames::{Frame, Input, BOUNDS, MARK, PLAN};
+use crate::configuration::{NOT_PLACED, ROUND_ROBIN};
+use crate::generation::by_entry::{Answered, Counts};
 use crate::generation::long_deadlines::{first_run_by_recurrence, has_long_deadline};
 use crate::generation::plans::shares_with_long_deadline;
 use crate::jobs::LONGEST_DEADLINE;
 use crate::response_time::{End, Run, INSTANCES};
-
-/// The entries whose accepted cases are counted, with their names.
-pub const ENTRIES: [(u8, &str); 3] = [(BOUNDS, "bounds"), (MARK, "mark"), (PLAN, "plan")];
 
 /// The counts of one entry's accepted cases.
 #[derive(Clone, Copy, Debug, Default)]
@@ -62,15 +57,16 @@ impl RunCounts {
         self.long_finish += usize::from(run.finish > u64::from(u16::MAX));
         self.longer_finish += usize::from(run.finish > 1_000_000);
     }
+}
 
-    /// Counts an accepted case.
-    fn count(&mut self, input: &Input, settings: &[Setting]) {
-        let jobs = input.job_slice();
-        self.cases += usize::from(has_long_deadline(&jobs));
-        self.cases_shared += usize::from(shares_with_long_deadline(&jobs, settings));
+impl Counts for RunCounts {
+    fn count(&mut self, answered: &Answered) {
+        let Answered { jobs, settings, .. } = answered;
+        self.cases += usize::from(has_long_deadline(jobs));
+        self.cases_shared += usize::from(shares_with_long_deadline(jobs, settings));
         for (index, job) in jobs.iter().enumerate() {
             if settings[index].policy != NOT_PLACED && job.deadline > job.period {
-                self.count_run(&first_run_by_recurrence(&jobs, settings, index));
+                self.count_run(&first_run_by_recurrence(jobs, settings, index));
                 self.longest_deadline += usize::from(job.deadline == LONGEST_DEADLINE);
                 self.period_is_cost += usize::from(job.period == job.cost);
                 self.shared += usize::from(settings[index].policy == ROUND_ROBIN);
@@ -78,9 +74,8 @@ impl RunCounts {
         }
     }
 
-    /// The counts with their names.
-    fn lines(&self) -> [(&'static str, usize); 16] {
-        [
+    fn lines(&self) -> Vec<(&'static str, usize)> {
+        vec![
             ("cases with a D above T", self.cases),
             ("with such a job on a shared level", self.cases_shared),
             ("runs closed at instance 0", self.closed_at_first),
@@ -98,63 +93,5 @@ impl RunCounts {
             ("runs with T equal to C", self.period_is_cost),
             ("runs on a shared level", self.shared),
         ]
-    }
-}
-
-/// The place of an accepted case's entry among those counted, and the case's configuration; none if
-/// the entry is not counted. The planner's configuration is in the output.
-pub fn configuration_of_case(input: &Input, output: &Frame) -> Option<(usize, Vec<Setting>)> {
-    let place = ENTRIES
-        .iter()
-        .position(|(entry, _)| *entry == input.entry)?;
-    let block = if input.entry == PLAN {
-        &output[4..4 + SETTING_BYTES * input.job_slice().len()]
-    } else {
-        input.block_b()
-    };
-    let records = block.chunks_exact(SETTING_BYTES);
-    Some((place, records.map(setting_of_record).collect()))
-}
-
-/// Writes the counts of the entries beside each other under a title.
-pub fn write_table<const LINES: usize>(
-    formatter: &mut fmt::Formatter<'_>,
-    title: &str,
-    [bounds, mark, plan]: [[(&'static str, usize); LINES]; ENTRIES.len()],
-) -> fmt::Result {
-    write!(formatter, "{title:<36}")?;
-    for (_, name) in ENTRIES {
-        write!(formatter, "{name:>10}")?;
-    }
-    writeln!(formatter)?;
-    for (index, (name, count)) in bounds.iter().enumerate() {
-        writeln!(
-            formatter,
-            "{name:<36}{count:>10}{:>10}{:>10}",
-            mark[index].1, plan[index].1
-        )?;
-    }
-    Ok(())
-}
-
-/// The counts of the entries that answer bounds.
-#[derive(Clone, Copy, Debug, Default)]
-pub struct LongDeadlineCounts {
-    pub entries: [RunCounts; ENTRIES.len()],
-}
-
-impl LongDeadlineCounts {
-    /// Counts an accepted case of any entry.
-    pub fn count(&mut self, input: &Input, output: &Frame) {
-        if let Some((place, settings)) = configuration_of_case(input, output) {
-            self.entries[place].count(input, &settings);
-        }
-    }
-}
-
-impl fmt::Display for LongDeadlineCounts {
-    fn fmt(&self, formatter: &mut fmt::Formatter<'_>) -> fmt::Result {
-        let lines = self.entries.map(|entry| entry.lines());
-        write_table(formatter, "jobs placed with a D above T", lines)
     }
 }

@@ -1,20 +1,15 @@
 //! Lists with a configuration in which the first run of one job's instances is of a wanted kind.
 
 use crate::configuration::QuantumRange;
-use crate::generation::layers::{add_members, built, reorder, skip_levels, Configured, Drawing};
+use crate::generation::configured::{first_drawn, Configured};
+use crate::generation::layers::{add_members, built, Drawing};
 use crate::generation::long_deadlines::{
-    add_layer_with_long_deadlines, closes_after_last, deadline_beyond, first_run_by_recurrence,
-    least_period, set_period,
+    closes_after_last, deadline_beyond, first_run_by_recurrence, least_period, set_period,
+    ABOVE_PERIODS,
 };
 use crate::generation::random::Random;
 use crate::jobs::{LONGEST_DEADLINE, LONGEST_PERIOD};
 use crate::response_time::{End, Run, INSTANCES};
-
-/// How often a list is drawn until its run is the one wanted.
-const ATTEMPTS: usize = 320;
-
-/// After so many draws the list drawn has one job less.
-const ATTEMPTS_OF_ONE_LENGTH: usize = 40;
 
 /// Scales of costs in turn, from single ticks up to costs with which the last instances finish
 /// after millions of ticks.
@@ -185,24 +180,16 @@ fn drawn(
 }
 
 /// A list of two jobs or more with a full configuration, in which the first run of one job's
-/// instances is of a wanted kind; none if no draw gives one. Long lists are seldom drawn with some
-/// of the runs, so the length falls with the attempts.
+/// instances is of a wanted kind; none if no draw gives one.
 pub fn list_with_wanted_run(
     random: &mut Random,
     wanted: Wanted,
     count: usize,
     drawing: Drawing,
 ) -> Option<Configured> {
-    for attempt in 0..ATTEMPTS {
-        let count = count
-            .saturating_sub(attempt / ATTEMPTS_OF_ONE_LENGTH)
-            .max(2);
-        if let Some(mut list) = drawn(random, wanted, count, drawing) {
-            skip_levels(random, &mut list.settings);
-            return Some(reorder(random, list));
-        }
-    }
-    None
+    first_drawn(random, count, |random, count| {
+        drawn(random, wanted, count, drawing)
+    })
 }
 
 /// A list without delays in which the first run of one job's instances is of the kind that is in
@@ -216,5 +203,5 @@ pub fn list_with_run(
     let wanted = WANTED[turn % WANTED.len()];
     let drawing = Drawing::without_delays(range, SCALES[turn % SCALES.len()]);
     list_with_wanted_run(random, wanted, count, drawing)
-        .unwrap_or_else(|| built(random, count, range, add_layer_with_long_deadlines))
+        .unwrap_or_else(|| built(random, count, range, ABOVE_PERIODS))
 }

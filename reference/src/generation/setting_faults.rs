@@ -3,8 +3,8 @@
 //! moves the others to later records.
 
 use crate::configuration::{FIFO, LONGEST_QUANTUM, NOT_PLACED, ROUND_ROBIN, SETTING_BYTES};
-use crate::generation::call::{output_needs, Call};
-use crate::generation::job_faults::{fault_records, faults_among};
+use crate::generation::call::Call;
+use crate::generation::job_faults::{broken_length, fault_records, faults_among};
 use crate::generation::random::Random;
 use crate::jobs::MOST_JOBS;
 
@@ -60,13 +60,12 @@ fn put_count_fault(random: &mut Random, call: &mut Call, may_be_empty: bool) {
         };
         return;
     }
+    let draw = random.below(5);
     let whole = call.setting_length;
-    match random.below(5) {
-        0 if may_be_empty => call.setting_length = 0,
-        1 => call.setting_length = whole - random.between(1, SETTING_BYTES - 1),
-        2 => call.setting_length = whole + random.between(1, SETTING_BYTES - 1),
-        3 => call.setting_length = whole - SETTING_BYTES,
-        _ => {
+    match broken_length(random, draw, whole, SETTING_BYTES, may_be_empty) {
+        Some(length) => call.setting_length = length,
+        None if draw == 3 => call.setting_length = whole - SETTING_BYTES,
+        None => {
             call.setting_records.extend_from_within(jobs - 1..);
             call.setting_length = whole + SETTING_BYTES;
         }
@@ -135,14 +134,14 @@ fn put_sharing_fault(random: &mut Random, call: &mut Call, record: usize) {
 
 /// Refusal 12: one output is too short, or both are.
 fn put_output_fault(random: &mut Random, call: &mut Call) {
-    let needs = output_needs(call.entry, call.jobs);
+    let outputs = call.given.outputs;
     let which = random.below(3);
-    for (index, need) in needs.iter().enumerate() {
-        let is_chosen = needs[1] == 0 || which == 2 || which == index;
-        if is_chosen && *need > 0 {
+    for (index, output) in outputs.iter().enumerate() {
+        let need = output.bytes_per_job * call.jobs;
+        if outputs.len() == 1 || which == 2 || which == index {
             call.output_lengths[index] = match random.below(4) {
                 0 => 0,
-                1 => random.below(*need),
+                1 => random.below(need),
                 _ => need - 1,
             };
         }

@@ -1,10 +1,7 @@
 //! How the two bounds of policy 2 jobs stand to each other in accepted cases.
 
-use std::fmt;
-
 use crate::configuration::{Setting, ROUND_ROBIN};
-use crate::frames::{Frame, Input, MARK};
-use crate::generation::run_counts::{configuration_of_case, write_table, ENTRIES};
+use crate::generation::by_entry::{Answered, Counts};
 use crate::generation::situations::{two_runs, Situation, SITUATIONS};
 use crate::jobs::Job;
 use crate::response_time::End;
@@ -37,9 +34,11 @@ impl SituationCounts {
         self.closed_apart += usize::from(are_closed && are_apart);
         situation
     }
+}
 
-    /// Counts an accepted case.
-    fn count(&mut self, jobs: &[Job], settings: &[Setting], passes: bool) {
+impl Counts for SituationCounts {
+    fn count(&mut self, answered: &Answered) {
+        let Answered { jobs, settings, .. } = answered;
         let mut situations = Vec::new();
         for (index, setting) in settings.iter().enumerate() {
             if setting.policy == ROUND_ROBIN {
@@ -48,14 +47,13 @@ impl SituationCounts {
         }
         self.cases += usize::from(!situations.is_empty());
         let by_second = situations.contains(&Situation::SecondAlone);
-        self.passing_by_second += usize::from(passes && by_second);
+        self.passing_by_second += usize::from(answered.passes && by_second);
     }
 
-    /// The counts with their names.
-    fn lines(&self) -> [(&'static str, usize); 15] {
+    fn lines(&self) -> Vec<(&'static str, usize)> {
         let [first_less, second_less, equal, first_alone, second_alone, neither] = self.jobs;
         let late = self.late_jobs;
-        [
+        vec![
             ("cases with such a job", self.cases),
             ("passing by a second bound", self.passing_by_second),
             ("first less, not 0", first_less),
@@ -72,26 +70,5 @@ impl SituationCounts {
             ("D above T: both 0", late[5]),
             ("both closed, at different instances", self.closed_apart),
         ]
-    }
-}
-
-/// The counts of the entries that answer bounds.
-#[derive(Clone, Copy, Debug, Default)]
-pub struct SharedLevelCounts {
-    pub entries: [SituationCounts; ENTRIES.len()],
-}
-
-impl SharedLevelCounts {
-    /// Counts an accepted case of any entry.
-    pub fn count(&mut self, input: &Input, output: &Frame) {
-        if let Some((place, settings)) = configuration_of_case(input, output) {
-            let passes = input.entry == MARK && output[1] != 0;
-            self.entries[place].count(&input.job_slice(), &settings, passes);
-        }
-    }
-
-    /// Writes the counts under a title.
-    pub fn write(&self, formatter: &mut fmt::Formatter<'_>, title: &str) -> fmt::Result {
-        write_table(formatter, title, self.entries.map(|entry| entry.lines()))
     }
 }

@@ -2,40 +2,22 @@
 
 use std::fmt;
 
-use crate::configuration::{setting_of_record, Setting, SETTING_BYTES};
-use crate::frames::{Frame, Input, KEY, PLAN};
+use crate::entries::faults::{Fault, Place};
+use crate::entries::{ENTRIES, KEY, PLAN};
+use crate::generation::by_entry::{Answered, ByEntry, Counts};
 use crate::generation::delay_counts::DelayCounts;
-use crate::generation::plans::{largest_layer, outcome, Outcome};
-use crate::generation::present::{faults_present, Fault};
-use crate::generation::run_counts::LongDeadlineCounts;
-use crate::generation::situation_counts::SharedLevelCounts;
-use crate::generation::{FIRST_DELAY_CASE, FIRST_LIGHT_NEIGHBOUR_CASE};
-use crate::jobs::{LONGEST_PERIOD, MOST_JOBS};
-
-/// The entries' names by their numbers.
-const ENTRY_NAMES: [&str; 11] = [
-    "",
-    "read_jobs",
-    "write_jobs",
-    "read_configuration",
-    "write_configuration",
-    "bounds",
-    "mark",
-    "plan",
-    "same_bytes",
-    "edit",
-    "key",
-];
-
-/// The groups of range widths, each up to and with its number.
-const WIDTHS: [usize; 5] = [1, 4, 16, 63, 64];
+use crate::generation::plan_counts::PlanCounts;
+use crate::generation::run_counts::RunCounts;
+use crate::generation::situation_counts::SituationCounts;
+use crate::generation::{cases_of_kind, kind_of_case, Case, KINDS};
+use crate::refusal::{Refusal, REFUSALS};
 
 /// The counts of one entry.
 #[derive(Clone, Copy, Debug, Default)]
 pub struct EntryCounts {
     pub accepted: usize,
     pub refused: usize,
-    /// Accepted calls whose first value is not 0.
+    /// Accepted calls whose first number is not 0.
     pub answered_yes: usize,
 }
 
@@ -43,112 +25,116 @@ pub struct EntryCounts {
 #[derive(Clone, Copy, Debug, Default)]
 pub struct RefusalCounts {
     pub all: usize,
-    /// With a fault of a later number present.
+    /// With a fault present that is sought later.
     pub with_later: usize,
-    /// With a fault of a later number in an earlier record.
+    /// With such a fault in an earlier record.
     pub with_later_before: usize,
 }
 
-/// The counts of the planner's accepted cases.
-#[derive(Clone, Debug, Default)]
-pub struct PlanCounts {
-    pub placed_alone: usize,
-    pub placed_in_pairs: usize,
-    pub placed_in_larger_layers: usize,
-    pub stopped_short: usize,
-    pub stopped_short_sharing: usize,
-    pub nothing_placed: usize,
-    /// Cases with a level of two jobs or more, whether or not all jobs are placed.
-    pub with_shared_level: usize,
-    /// Cases with a level of three jobs or more, whether or not all jobs are placed.
-    pub with_level_of_three: usize,
-    /// Cases with a shared level in a range of more than 16 quanta.
-    pub with_shared_level_in_wide_range: usize,
-    pub with_longest_period: usize,
-    /// By the number of jobs, from 1 on.
-    pub by_jobs: [usize; MOST_JOBS],
-    /// By the groups of range widths.
-    pub by_width: [usize; WIDTHS.len()],
+/// The counts of one kind of cases.
+#[derive(Clone, Copy, Debug, Default)]
+pub struct KindCounts {
+    pub accepted: usize,
+    pub refused: usize,
+    pub neighbours: ByEntry<SituationCounts>,
 }
 
 /// All counts.
 #[derive(Clone, Debug, Default)]
 pub struct Summary {
-    /// By the entry's number.
-    pub entries: [EntryCounts; ENTRY_NAMES.len()],
-    /// By the refusal's number.
-    pub refusals: [RefusalCounts; 13],
+    /// By the entry's place.
+    pub entries: [EntryCounts; ENTRIES.len()],
+    /// By the refusal's place, without those in the key program's texts.
+    pub refusals: [RefusalCounts; REFUSALS.len()],
+    /// By the kind's place.
+    pub kinds: [KindCounts; KINDS.len()],
     pub plans: PlanCounts,
-    pub long_deadlines: LongDeadlineCounts,
-    /// Of the cases below the first one for light neighbours.
-    pub shared_levels: SharedLevelCounts,
-    /// Of the cases from that one on, below the first one for delays.
-    pub light_neighbours: SharedLevelCounts,
-    /// Of the cases for delays.
-    pub delayed_neighbours: SharedLevelCounts,
+    pub long_deadlines: ByEntry<RunCounts>,
     pub delays: DelayCounts,
 }
 
 impl Summary {
     /// The counts of the cases from case 0 on.
-    pub fn of_cases(cases: &[(Frame, Frame)]) -> Summary {
+    pub fn of_cases(cases: &[Case]) -> Summary {
         let mut summary = Summary::default();
-        for (case, (input, output)) in cases.iter().enumerate() {
-            summary.count(case, &Input::from_frame(input), output);
+        for (number, case) in cases.iter().enumerate() {
+            summary.count(number, case);
         }
         summary
     }
 
-    fn count(&mut self, case: usize, input: &Input, output: &Frame) {
-        let entry = &mut self.entries[usize::from(input.entry)];
-        let is_refused =
-            output[0] != 0 || input.entry == KEY && output[4..].starts_with(b"refused");
-        if is_refused {
+    fn count(&mut self, number: usize, case: &Case) {
+        let Case { input, output } = case;
+        let entry = &mut self.entries[case.place_of_entry()];
+        let kind = &mut self.kinds[kind_of_case(number).0];
+        let is_refused_key = input.head == KEY && output.blocks[0].starts_with(b"refused");
+        if output.head != 0 || is_refused_key {
             entry.refused += 1;
-            self.refusals[usize::from(output[0])].count(output[0], &faults_present(input));
+            kind.refused += 1;
+            for (refusal, counts) in REFUSALS.iter().zip(&mut self.refusals) {
+                if refusal.number() == output.head {
+                    counts.count(*refusal, &case.faults());
+                }
+            }
             return;
         }
         entry.accepted += 1;
-        entry.answered_yes += usize::from(output[1] != 0);
-        if input.entry == PLAN {
-            self.plans.count(input, output);
+        kind.accepted += 1;
+        entry.answered_yes += usize::from(output.numbers.first().is_some_and(|first| *first != 0));
+        self.delays.count(case);
+        if let Some((place, answered)) = Answered::of_case(case) {
+            kind.neighbours.entries[place].count(&answered);
+            self.long_deadlines.entries[place].count(&answered);
+            if input.head == PLAN {
+                self.plans.count(&answered);
+            }
         }
-        self.long_deadlines.count(input, output);
-        self.delays.count(input, output);
-        let shared_levels = if case < FIRST_LIGHT_NEIGHBOUR_CASE {
-            &mut self.shared_levels
-        } else if case < FIRST_DELAY_CASE {
-            &mut self.light_neighbours
-        } else {
-            &mut self.delayed_neighbours
-        };
-        shared_levels.count(input, output);
     }
 
-    /// Writes the counts of entries and those of refusals.
+    /// Writes the counts of entries, those of refusals and those of kinds.
     fn write_answers(&self, formatter: &mut fmt::Formatter<'_>) -> fmt::Result {
         writeln!(
             formatter,
-            "{:<24}{:>10}{:>10}{:>16}",
-            "entry", "accepted", "refused", "first value > 0"
+            "{:<24}{:>10}{:>10}{:>18}",
+            "entry", "accepted", "refused", "first number > 0"
         )?;
-        for (name, entry) in ENTRY_NAMES.iter().zip(&self.entries).skip(1) {
+        for (entry, counts) in ENTRIES.iter().zip(&self.entries) {
             writeln!(
                 formatter,
-                "{name:<24}{:>10}{:>10}{:>16}",
-                entry.accepted, entry.refused, entry.answered_yes
+                "{:<24}{:>10}{:>10}{:>18}",
+                entry.name, counts.accepted, counts.refused, counts.answered_yes
             )?;
         }
         writeln!(
             formatter,
-            "\n{:<24}{:>10}{:>16}{:>22}",
+            "\n{:<24}{:>10}{:>18}{:>22}",
             "refusal", "cases", "later fault too", "in an earlier record"
         )?;
-        for (number, refusal) in self.refusals.iter().enumerate().skip(1) {
+        for (refusal, counts) in REFUSALS.iter().zip(&self.refusals) {
             writeln!(
                 formatter,
-                "{number:<24}{:>10}{:>16}{:>22}",
-                refusal.all, refusal.with_later, refusal.with_later_before
+                "{:<24}{:>10}{:>18}{:>22}",
+                refusal.number(),
+                counts.all,
+                counts.with_later,
+                counts.with_later_before
+            )?;
+        }
+        self.write_kinds(formatter)
+    }
+
+    fn write_kinds(&self, formatter: &mut fmt::Formatter<'_>) -> fmt::Result {
+        writeln!(
+            formatter,
+            "\n{:<24}{:>10}{:>10}{:>14}",
+            "kind", "accepted", "refused", "first case"
+        )?;
+        for (kind, counts) in KINDS.iter().zip(&self.kinds) {
+            let first = cases_of_kind(kind).start;
+            writeln!(
+                formatter,
+                "{:<24}{:>10}{:>10}{:>14}",
+                kind.name, counts.accepted, counts.refused, first
             )?;
         }
         Ok(())
@@ -156,113 +142,40 @@ impl Summary {
 }
 
 impl RefusalCounts {
-    fn count(&mut self, number: u8, faults: &[Fault]) {
+    /// Counts a call with this refusal and these faults.
+    fn count(&mut self, refusal: Refusal, faults: &[Fault]) {
         self.all += 1;
-        let own = faults.iter().find(|fault| fault.number == number);
-        let record = own.and_then(|fault| fault.record);
-        let is_later = |fault: &&Fault| fault.number > number;
-        let is_before = |fault: &Fault| match (fault.record, record) {
-            (Some(of_fault), Some(of_refusal)) => {
-                of_fault < of_refusal && concerns_jobs(fault.number) == concerns_jobs(number)
-            }
-            _ => false,
-        };
+        let own = faults.iter().find(|fault| fault.refusal == refusal);
+        let own = own.and_then(|fault| fault.place);
+        let is_later = |fault: &&Fault| fault.refusal.place() > refusal.place();
         let mut later = faults.iter().filter(is_later).peekable();
         self.with_later += usize::from(later.peek().is_some());
+        let is_before = |fault: &Fault| is_earlier_record(fault.place, own);
         self.with_later_before += usize::from(later.any(is_before));
     }
 }
 
-/// Whether a refusal is about job records rather than configuration records.
-fn concerns_jobs(number: u8) -> bool {
-    number <= 5
-}
-
-impl PlanCounts {
-    fn count(&mut self, input: &Input, output: &Frame) {
-        let jobs = input.job_slice();
-        let settings: Vec<Setting> = output[4..4 + SETTING_BYTES * jobs.len()]
-            .chunks_exact(SETTING_BYTES)
-            .map(setting_of_record)
-            .collect();
-        *match outcome(&settings) {
-            Outcome::PlacedAlone => &mut self.placed_alone,
-            Outcome::PlacedInPairs => &mut self.placed_in_pairs,
-            Outcome::PlacedInLargerLayers => &mut self.placed_in_larger_layers,
-            Outcome::StoppedShort => &mut self.stopped_short,
-            Outcome::StoppedShortSharing => &mut self.stopped_short_sharing,
-            Outcome::NothingPlaced => &mut self.nothing_placed,
-        } += 1;
-        let largest = largest_layer(&settings);
-        self.with_shared_level += usize::from(largest >= 2);
-        self.with_level_of_three += usize::from(largest >= 3);
-        let width = usize::from(input.high - input.low) + 1;
-        self.with_shared_level_in_wide_range += usize::from(largest >= 2 && width > 16);
-        let is_longest = jobs.iter().any(|job| job.period == LONGEST_PERIOD);
-        self.with_longest_period += usize::from(is_longest);
-        self.by_jobs[jobs.len() - 1] += 1;
-        let group = WIDTHS.iter().position(|most| width <= *most);
-        self.by_width[group.expect("a range has at most 64 quanta")] += 1;
+/// Whether one place is that of a record before the other's in the same block.
+fn is_earlier_record(one: Option<Place>, other: Option<Place>) -> bool {
+    match (one, other) {
+        (Some(one), Some(other)) => one.block == other.block && one.record < other.record,
+        _ => false,
     }
-}
-
-/// Writes a line with a name and a count.
-fn line(formatter: &mut fmt::Formatter<'_>, name: &str, count: usize) -> fmt::Result {
-    writeln!(formatter, "{name:<44}{count:>8}")
 }
 
 impl fmt::Display for Summary {
     fn fmt(&self, formatter: &mut fmt::Formatter<'_>) -> fmt::Result {
         self.write_answers(formatter)?;
-        writeln!(formatter)?;
-        self.plans.fmt(formatter)?;
-        writeln!(formatter)?;
-        self.long_deadlines.fmt(formatter)?;
-        let (light, delayed) = (FIRST_LIGHT_NEIGHBOUR_CASE, FIRST_DELAY_CASE);
-        for (counts, cases) in [
-            (&self.shared_levels, format!("below case {light}")),
-            (
-                &self.light_neighbours,
-                format!("in cases {light} to {}", delayed - 1),
-            ),
-            (&self.delayed_neighbours, format!("from case {delayed} on")),
-        ] {
-            writeln!(formatter)?;
-            counts.write(formatter, &format!("policy 2 jobs {cases}"))?;
+        writeln!(formatter, "\n{}", self.plans)?;
+        self.long_deadlines
+            .write(formatter, "jobs placed with a D above T")?;
+        for (kind, counts) in KINDS.iter().zip(&self.kinds) {
+            let neighbours = &counts.neighbours;
+            if neighbours.entries.iter().any(|entry| entry.cases > 0) {
+                writeln!(formatter)?;
+                neighbours.write(formatter, &format!("policy 2 jobs, {}", kind.name))?;
+            }
         }
-        writeln!(formatter)?;
-        self.delays.write(formatter, &ENTRY_NAMES)
-    }
-}
-
-impl fmt::Display for PlanCounts {
-    fn fmt(&self, formatter: &mut fmt::Formatter<'_>) -> fmt::Result {
-        let (pairs, larger) = (self.placed_in_pairs, self.placed_in_larger_layers);
-        let (short, short_sharing) = (self.stopped_short, self.stopped_short_sharing);
-        let wide = self.with_shared_level_in_wide_range;
-        writeln!(formatter, "accepted cases of plan")?;
-        for (name, count) in [
-            ("all placed, each alone", self.placed_alone),
-            ("all placed, levels of up to 2", pairs),
-            ("all placed, a level of 3 or more", larger),
-            ("stopped short, some placed, each alone", short),
-            ("stopped short, some placed, a shared level", short_sharing),
-            ("nothing placed", self.nothing_placed),
-            ("with a shared level", self.with_shared_level),
-            ("with a shared level, range above 16 wide", wide),
-            ("with a level of 3 or more", self.with_level_of_three),
-            ("with a T of 60,000", self.with_longest_period),
-        ] {
-            line(formatter, name, count)?;
-        }
-        for (index, count) in self.by_jobs.iter().enumerate() {
-            line(formatter, &format!("number of jobs {}", index + 1), *count)?;
-        }
-        let mut least = 1;
-        for (most, count) in WIDTHS.iter().zip(&self.by_width) {
-            line(formatter, &format!("range width {least} to {most}"), *count)?;
-            least = most + 1;
-        }
-        Ok(())
+        write!(formatter, "\n{}", self.delays)
     }
 }

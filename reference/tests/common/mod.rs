@@ -2,6 +2,7 @@
 //! numbers, random lists, and the bounds by searches written from the texts about them.
 #![allow(dead_code)]
 
+pub mod comparisons;
 pub mod readings;
 
 use reference::configuration::{Setting, FIFO, NOT_PLACED, ROUND_ROBIN};

@@ -1,16 +1,36 @@
 use Prim.Native.Nat.{_≤_}
+use mathlib.Core.Path.{_≡_}
+use lib.ListN.{length}
 use borrow.Author.Needs.{needs}
 use Rattle.vectors.proofs.main.Statement.{statement}
 use Rattle.vectors.proofs.main.Tie as tie
 
 abbrev Inv-loop : tie.InvT-loop
-Inv-loop left₀ left = left ≤ 1000000
+Inv-loop a₀ b₀ c₀ left₀ a b c left = (left ≤ 1000000) × (length a ≡ 65536) × (length b ≡ 65536) × (length c ≡ 65536)
 
 abbrev μ-loop : tie.MeasureT-loop
-μ-loop left₀ left = left
+μ-loop a₀ b₀ c₀ left₀ a b c left = left
+
+large-buffer-requires : tie.Need-large-buffer-requires Inv-loop μ-loop
+large-buffer-requires c κs = search needs
+
+large-buffer-requires-2 : tie.Need-large-buffer-requires-2 Inv-loop μ-loop
+large-buffer-requires-2 c κs = search needs
+
+large-buffer-requires-3 : tie.Need-large-buffer-requires-3 Inv-loop μ-loop
+large-buffer-requires-3 c κs = search needs
 
 loop-holds : tie.Need-loop-holds Inv-loop μ-loop
 loop-holds c = search needs
+
+slice-aggregate-answer-next : tie.Need-slice-aggregate-answer-next Inv-loop μ-loop
+slice-aggregate-answer-next c = search needs
+
+slice-aggregate-answer-next-2 : tie.Need-slice-aggregate-answer-next-2 Inv-loop μ-loop
+slice-aggregate-answer-next-2 c = search needs
+
+slice-aggregate-answer-next-3 : tie.Need-slice-aggregate-answer-next-3 Inv-loop μ-loop
+slice-aggregate-answer-next-3 c = search needs
 
 answer-next-requires : tie.Need-answer-next-requires Inv-loop μ-loop
 answer-next-requires c κs = search needs
@@ -36,7 +56,13 @@ main-spec =
     (tie.spec
     Inv-loop
     μ-loop
+    large-buffer-requires
+    large-buffer-requires-2
+    large-buffer-requires-3
     loop-holds
+    slice-aggregate-answer-next
+    slice-aggregate-answer-next-2
+    slice-aggregate-answer-next-3
     answer-next-requires
     returns
     sub-left

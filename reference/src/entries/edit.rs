@@ -1,13 +1,50 @@
-//! Calls of the exam desk's edit.
+//! Entry 9, the exam desk's edit. Given: the place, the cost, the period and the deadline; the job
+//! records of the slice. Answered: no numbers; the records of the slice.
 
-use crate::frames::{Input, EDIT};
-use crate::generation::call::{blank_input, put};
+use crate::desk::edit;
+use crate::entries::faults::{Fault, Faults};
+use crate::entries::{jobs_of_first_block, output_frame, whole_records, Entry};
+use crate::frames::Frame;
 use crate::generation::job_faults::{with_bad_times, with_one_bad_time, BadTimes};
-use crate::generation::layers::DelayRule;
+use crate::generation::layers::{DelayRule, NO_DELAY};
 use crate::generation::lists::job_of_times;
 use crate::generation::long_deadlines::deadline_beyond;
 use crate::generation::random::Random;
-use crate::jobs::{record_of_job, Job, LONGEST_PERIOD, MOST_JOBS};
+use crate::jobs::{
+    jobs_of_records, judge_table_count, judge_times, records_of_jobs, Job, JOB_BYTES,
+    LONGEST_PERIOD, MOST_JOBS,
+};
+use crate::refusal::Refusal;
+
+pub const EDIT: u8 = 9;
+
+pub const ENTRY: Entry = Entry {
+    number: EDIT,
+    name: "edit",
+    answer,
+    faults,
+    jobs: jobs_of_first_block,
+};
+
+fn answer(input: &Frame) -> Option<Frame> {
+    let ([place, cost, period, deadline], [slice]) = input.parts()?;
+    let mut jobs = jobs_of_records(whole_records(slice, JOB_BYTES)?);
+    let answer = edit(&mut jobs, usize::from(place), cost, period, deadline);
+    let answer = answer.map(|()| []);
+    Some(output_frame(answer, [records_of_jobs(&jobs)]))
+}
+
+fn faults(input: &Frame) -> Option<Vec<Fault>> {
+    let ([place, cost, period, deadline], [slice]) = input.parts()?;
+    let count = jobs_of_records(slice).len();
+    let mut faults = Faults::default();
+    faults.judge(judge_table_count(count));
+    if usize::from(place) >= count {
+        faults.judge(Err(Refusal::EditPlace));
+    }
+    faults.judge(judge_times(&[job_of_times(cost, period, deadline)]));
+    Some(faults.found())
+}
 
 /// What an edit's call is to show.
 #[derive(Clone, Copy, PartialEq, Eq)]
@@ -33,7 +70,7 @@ pub const EDITS: EditRule = EditRule {
     kinds: &KINDS,
     good_times,
     bad_times: with_bad_times,
-    delay: |_| 0,
+    delay: NO_DELAY,
 };
 
 /// Calls with deadlines above periods and without delays.
@@ -41,7 +78,7 @@ pub const LONG_DEADLINE_EDITS: EditRule = EditRule {
     kinds: &KINDS,
     good_times: good_times_with_long_deadline,
     bad_times: with_one_bad_time,
-    delay: |_| 0,
+    delay: NO_DELAY,
 };
 
 /// Calls with delays, which the edit keeps. A delay may be above all times of its job.
@@ -121,7 +158,7 @@ fn any_jobs(random: &mut Random, count: usize, delay: DelayRule) -> Vec<Job> {
             random.ticks(0, u16::MAX),
             random.ticks(0, u16::MAX),
         );
-        job.id = random.byte(0, 255);
+        job.id = random.byte(0, u8::MAX);
         job.delay = delay(random);
         jobs.push(job);
     }
@@ -155,13 +192,13 @@ fn lent_and_place(random: &mut Random, kind: Kind, round: usize) -> (usize, usiz
     }
 }
 
-/// The edit's call that is the `ordinal`-th, counted from 0, by a rule.
-pub fn edit_call(random: &mut Random, ordinal: usize, rule: &EditRule) -> Input {
+/// The call that is the `turn`-th by a rule, counted from 0.
+pub fn edit_call(random: &mut Random, turn: usize, rule: &EditRule) -> Frame {
     let kinds = rule.kinds;
-    let kind = kinds[ordinal % kinds.len()];
+    let kind = kinds[turn % kinds.len()];
     // Calls of one kind see the rounds 0, 1, 2 and so on, so that counts and places come in turn.
     let before = |end: usize| kinds[..end].iter().filter(|other| **other == kind).count();
-    let round = ordinal / kinds.len() * before(kinds.len()) + before(ordinal % kinds.len());
+    let round = turn / kinds.len() * before(kinds.len()) + before(turn % kinds.len());
     let (count, place) = lent_and_place(random, kind, round);
     let jobs = any_jobs(random, count, rule.delay);
     let mut times = (rule.good_times)(random);
@@ -169,11 +206,9 @@ pub fn edit_call(random: &mut Random, ordinal: usize, rule: &EditRule) -> Input 
     if kind == Kind::BadTimes || may_be_bad && random.once_in(2) {
         times = (rule.bad_times)(random, &times);
     }
-    let mut input = blank_input(EDIT);
-    let records: Vec<u8> = jobs.iter().flat_map(record_of_job).collect();
-    input.length_a = records.len() as u8;
-    put(&mut input.a, &records);
-    input.number = place as u8;
-    (input.cost, input.period, input.deadline) = (times.cost, times.period, times.deadline);
-    input
+    Frame {
+        head: EDIT,
+        numbers: vec![place as u16, times.cost, times.period, times.deadline],
+        blocks: vec![records_of_jobs(&jobs)],
+    }
 }
