@@ -9,3 +9,4 @@ pub mod Planned
 pub mod AnyPlay
 pub mod Settling
 pub mod StoredKeys
+pub mod OldKeys

@@ -22,7 +22,7 @@ use Rattle.response.specs.Demand.{bound}
 use Rattle.response.proofs.Easier.{bound-same, bound-alone}
 use Rattle.marker.specs.Bounds.{quantaOf, layerOf, aboveOf}
 use Rattle.marker.proofs.Configured.{quantum-at}
-use Rattle.assignment.specs.Plan.{Stage, settingIn, settingLeft, put, place}
+use Rattle.assignment.specs.Plan.{Stage, settingIn, settingLeft, put, place, placeBy}
 
 -- The marker's bound of a job that is placed.
 abbrev pub placedBound : List Job → List Setting → ℕ → ℕ
@@ -254,7 +254,7 @@ module _
         go false x true y = absurd (false≢true (sym e ∙ rest-at k ∙ ap₂ (λ (a b : Bool). a && not b) y x))
 
     pub placed-good : Good jobs low high v (place jobs (suc v) s q stage)
-    unfolding place
+    unfolding placeBy
     placed-good = record {
       less = rest-lt n (stage .left) s (G .less);
       settings = list-length (λ i. cond (has s i) (given i) (settingAt old i)) n;

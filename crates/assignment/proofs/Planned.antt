@@ -14,6 +14,7 @@ use lib.ListN.{length, getD}
 use lib.Pow.{pow-pos}
 use lib.Seq.{ext-getD}
 use borrow.Author.Tests.{eqb-true, ltb-true, ltb-false, lt-ltb}
+use Rattle.response.specs.Demand.{bound}
 use Rattle.sets.specs.Places.{every}
 use Rattle.sets.specs.Sets.{Set, places, has, size, firstJobs, Alone}
 use Rattle.sets.specs.Order.{BySize, order}
@@ -32,7 +33,7 @@ use Rattle.configuration.proofs.Shapes.{shapes, configuration}
 use Rattle.marker.specs.Bounds.{quantaOf, layerOf, boundAt, boundsOf, isServed, passes}
 use Rattle.marker.proofs.Configured.{bound-unplaced, bound-placed, quantum-at}
 use Rattle.assignment.specs.Takeable.{Permitted, Served, TakeableBy}
-use Rattle.assignment.specs.Plan.{isFound, quantaIn, Stage, settingLeft, place, planFrom, start, Plan, planBy, quantaFor, plan}
+use Rattle.assignment.specs.Plan.{isFound, quantaIn, Stage, settingLeft, place, planFrom, planFromBy, start, Plan, planBy, quantaFor, plan}
 use Rattle.assignment.specs.Guarantee.{leftBy, GuaranteeOver, Guarantee}
 use Rattle.assignment.proofs.Serving.{Costs}
 use Rattle.assignment.proofs.Taking.{Finds, served-drop, per-job}
@@ -113,20 +114,20 @@ module _
     -- ---- what holds of the configuration returned
 
     good : (v : ℕ) (stage : Stage) → v ≤ n → Good jobs low high v stage → Good jobs low high 0 (planFrom jobs find sequence v stage)
-    unfolding planFrom
+    unfolding planFromBy
     good zero stage h G = G
     good (suc v) stage h G = go (step jobs costs low high Permit find F few sequence A (stage .left) (G .less)) (good v)
       where
         go : NoneTaken jobs costs low high Permit find F few sequence A (stage .left) ⊎ Taken jobs costs low high Permit find F few sequence A (stage .left)
             → ((stage : Stage) → v ≤ n → Good jobs low high v stage → Good jobs low high 0 (planFrom jobs find sequence v stage))
             → Good jobs low high 0 (planFrom jobs find sequence (suc v) stage)
-        go (inl w) ih = rw (plan-stops jobs find sequence v stage (w .chosen)) (lower jobs low high (suc v) stage G)
+        go (inl w) ih = rw (plan-stops (bound jobs) jobs find sequence v stage (w .chosen)) (lower jobs low high (suc v) stage G)
         go (inr w) ih =
             let r = stage .left in
             let s = w .set in
             let q = w .quanta in
             let e : quantaIn (find r s) ≡ q = ap quantaIn (w .found) in
-            rw (plan-goes jobs find sequence v stage s (w .chosen) (w .pos), e)
+            rw (plan-goes (bound jobs) jobs find sequence v stage s (w .chosen) (w .pos), e)
             (ih (place jobs (suc v) s q stage) (omega arith)
             (placed-good jobs low high v h stage G s q (w .of .0) (w .of .1) (F .serves r s q (w .of) (w .found)) (F .range r s q (w .of) (w .found))))
 

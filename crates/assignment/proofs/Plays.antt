@@ -17,25 +17,26 @@ use Rattle.sets.proofs.Parts.{within-has, has-within, within-le, rest-lt, size-
 use Rattle.sets.proofs.Ordering.{keep-in, keep-out}
 use Rattle.sets.proofs.Considering.{Tried, Took, tried-or-took}
 use Rattle.records.specs.declared.job.Job.{Job}
+use Rattle.response.specs.Demand.{ResponseTest, bound}
 use Rattle.assignment.specs.Takeable.{Served, TakeableBy}
-use Rattle.assignment.specs.Plan.{isFound, quantaIn, Stage, chosen, place, planFrom}
+use Rattle.assignment.specs.Plan.{isFound, quantaIn, Stage, chosen, place, placeBy, planFrom, planFromBy}
 use Rattle.assignment.proofs.Serving.{Costs}
 use Rattle.assignment.proofs.Taking.{Of, Finds, served-drop, can-take}
 use Rattle.assignment.proofs.Optimal.{Play, done, next, Stuck, take-same}
 
 -- ---- one level
 
-module _ (jobs : List Job) (find : ℕ → ℕ → Option (List ℕ)) (sequence : List ℕ) (level : ℕ) (stage : Stage) where
-  pub plan-stops : chosen find sequence (stage .left) ≡ 0 → planFrom jobs find sequence (suc level) stage ≡ stage
-  unfolding planFrom
-  plan-stops e = rw (eq-eqb _ 0 e, planFrom)
+module _ (test : ResponseTest) (jobs : List Job) (find : ℕ → ℕ → Option (List ℕ)) (sequence : List ℕ) (level : ℕ) (stage : Stage) where
+  pub plan-stops : chosen find sequence (stage .left) ≡ 0 → planFromBy test jobs find sequence (suc level) stage ≡ stage
+  unfolding planFromBy
+  plan-stops e = rw (eq-eqb _ 0 e, planFromBy)
 
   pub plan-goes : (s : ℕ) → chosen find sequence (stage .left) ≡ s → 0 < s
-      → planFrom jobs find sequence (suc level) stage ≡ planFrom jobs find sequence level (place jobs (suc level) s (quantaIn (find (stage .left) s)) stage)
-  unfolding planFrom
+      → planFromBy test jobs find sequence (suc level) stage ≡ planFromBy test jobs find sequence level (placeBy test jobs (suc level) s (quantaIn (find (stage .left) s)) stage)
+  unfolding planFromBy
   plan-goes s e p =
-      rw (ne-eqb (chosen find sequence (stage .left)) 0 (λ z. omega arith), planFrom)
-      (ap (λ (x : ℕ). planFrom jobs find sequence level (place jobs (suc level) x (quantaIn (find (stage .left) x)) stage)) e)
+      rw (ne-eqb (chosen find sequence (stage .left)) 0 (λ z. omega arith), planFromBy)
+      (ap (λ (x : ℕ). planFromBy test jobs find sequence level (placeBy test jobs (suc level) x (quantaIn (find (stage .left) x)) stage)) e)
 
 -- A sequence of all sets of eight jobs and of nothing else, in whatever order.
 pub record AllSets (sequence : List ℕ) : Type 0 where
@@ -119,7 +120,7 @@ module _
     Ends stage end = Play n Take (has (stage .left)) (has (end .left)) × Stuck Take (has (end .left))
 
     pub plays : (level : ℕ) (stage : Stage) → stage .left < 2 ^ n → size (stage .left) ≤ level → Ends stage (planFrom jobs find sequence level stage)
-    unfolding planFrom place
+    unfolding planFromBy placeBy
     plays zero stage b few-left = (done, λ s t. empty (t .some .0) (t .sub (t .some .0) (t .some .1) (t .some .2)))
       where
         empty : (k : ℕ) → has (stage .left) k ≡ true → ⊥
@@ -132,9 +133,9 @@ module _
         go : NoneTaken (stage .left) ⊎ Taken (stage .left)
             → ((stage : Stage) → stage .left < 2 ^ n → size (stage .left) ≤ level → Ends stage (planFrom jobs find sequence level stage))
             → Ends stage (planFrom jobs find sequence (suc level) stage)
-        go (inl w) ih = rw (plan-stops jobs find sequence level stage (w .chosen)) (done, w .stuck)
+        go (inl w) ih = rw (plan-stops (bound jobs) jobs find sequence level stage (w .chosen)) (done, w .stuck)
         go (inr w) ih =
             let r = stage .left in
             let next-stage = place jobs (suc level) (w .set) (quantaIn (find r (w .set))) stage in
             let g = ih next-stage (rest-lt n r (w .set) b) (omega (arith, size-rest r (w .set) (w .inside), size-pos n (w .set) (w .of .0) (w .pos))) in
-            rw (plan-goes jobs find sequence level stage (w .set) (w .chosen) (w .pos)) (next (has (w .set)) (w .take) (λ i l. has-rest i r (w .set)) (g .0), g .1)
+            rw (plan-goes (bound jobs) jobs find sequence level stage (w .set) (w .chosen) (w .pos)) (next (has (w .set)) (w .take) (λ i l. has-rest i r (w .set)) (g .0), g .1)

@@ -17,7 +17,7 @@ use Rattle.records.specs.Jobs.{jobAt}
 use Rattle.records.specs.declared.job.Job.{Job}
 use Rattle.response.specs.Demand.{bound}
 use Rattle.response.proofs.Easier.{easier, lighter-quanta, others-mono}
-use Rattle.assignment.specs.Plan.{smallest, quantaOver, quantumRanges, serves}
+use Rattle.assignment.specs.Plan.{smallest, quantaOver, quantumRanges, serves, servesBy}
 use Rattle.assignment.specs.Layers.{Fits, Low, Hopeless}
 use Rattle.assignment.proofs.Smallest.{smallest-least, smallest-none, fits-at, fits-of}
 
@@ -60,11 +60,11 @@ module _ (low high : ℕ) (layer : Set) (n : ℕ) where
 
 module _ (jobs : List Job) (layer above : Set) (quanta : List ℕ) where
   pub serves-at : serves jobs layer above quanta ≡ true → (k : ℕ) → k < length jobs → layer k ≡ true → 0 < bound jobs quanta layer above k
-  unfolding serves
+  unfolding servesBy
   serves-at e k l h = ltb-true 0 (bound jobs quanta layer above k) (sym (ap (λ b. not b || ltb 0 (bound jobs quanta layer above k)) h) ∙ every-at _ (length jobs) e k l)
 
   pub serves-of : ((k : ℕ) → k < length jobs → layer k ≡ true → 0 < bound jobs quanta layer above k) → serves jobs layer above quanta ≡ true
-  unfolding serves
+  unfolding servesBy
   serves-of h = every-of _ (length jobs) (λ k l. go k (layer k) (λ e. lt-ltb 0 (bound jobs quanta layer above k) (h k l e)))
     where
       go : (k : ℕ) (b : Bool) → (b ≡ true → ltb 0 (bound jobs quanta layer above k) ≡ true) → (not b || ltb 0 (bound jobs quanta layer above k)) ≡ true

@@ -2,7 +2,7 @@
 -- rest above, and sets of one come first. Assumes nothing.
 use Prim.Native.Nat.{ℕ, zero, suc, _+_, _^_, _≤_, _<_}
 use mathlib.Core.Path.{_≡_, refl, sym, _∙_, ap, ap₂, fun-ext}
-use mathlib.Core.Bool.{Bool, true, false, not, _&&_, _||_, and-eq-true-iff, false≢true}
+use mathlib.Core.Bool.{Bool, true, false, cond, not, _&&_, _||_, and-eq-true-iff, false≢true}
 use mathlib.Core.Logic.{_⊎_, inl, inr, ⊎-elim, _≢_}
 use mathlib.Core.List.{List, [], _∷_, List·Memᴰ, List·Memᴰ·head, List·Memᴰ·tail, List·Memᴰ·not-nil, List·Memᴰ·cases-cons, Memᴰ·append-right}
 use mathlib.Core.Option.{Option, none, some}
@@ -10,13 +10,13 @@ use native.Mathlib.Nat.{le-refl}
 use native.Mathlib.Decide.{decLe, ℕ-discrete}
 use native.Mathlib.Omega.{arith}
 use lib.Dec.{eqb, ltb}
-use lib.ListN.{length}
+use lib.ListN.{length, getD}
 use lib.Pow.{pow-lt}
 use borrow.Author.Tests.{eq-eqb, ne-eqb, eqb-true}
 use Rattle.sets.specs.Places.{every}
-use Rattle.sets.specs.Sets.{Set, places, has, single, rest, remove, within, size, firstJobs, but, Alone}
+use Rattle.sets.specs.Sets.{places, has, single, rest, remove, within, size, firstJobs, but, Alone}
 use Rattle.sets.specs.Order.{order, subsets, firstTaken, considered, consideredCount, Pairwise}
-use Rattle.sets.proofs.Places.{every-same}
+use Rattle.sets.proofs.Places.{every-same, list-same}
 use Rattle.sets.proofs.Members.{has-rest, has-single, has-others, has-pos, single-is}
 use Rattle.sets.proofs.Parts.{within-has, has-within, within-le, rest-lt, size-pos, size-one, size-rest}
 use Rattle.sets.proofs.LowestMember.{size-remove}
@@ -25,21 +25,11 @@ use Rattle.sets.proofs.Considering.{first-hit, first-miss, Tried, Took, tried-o
 use Rattle.records.specs.declared.job.Job.{Job}
 use Rattle.response.specs.Demand.{firstBound, withNeighbours, secondBound, bound}
 use Rattle.response.proofs.Easier.{bound-alone, first-alone, second-alone, second-none}
-use Rattle.assignment.specs.Plan.{smallest, quantumRanges, serves, quantaFor, isFound, quantaIn, Stage, place, chosen, planFrom, start, planBy, plan}
+use Rattle.assignment.specs.Plan.{smallest, quantumRanges, servesBy, quantaFor, quantaBy, isFound, quantaIn, Stage, place, placeBy, chosen, planFrom, planFromBy, start, planWith, plan}
 use Rattle.assignment.proofs.Serving.{Costs}
 use Rattle.assignment.proofs.Taking.{Of, served-drop, per-job}
 use Rattle.assignment.proofs.Plays.{plan-stops, plan-goes}
 use Rattle.assignment.proofs.Planned.{start-less}
-
--- ---- the planner that goes by first bounds alone
-
--- Each job of the layer has a first bound that is not 0.
-pub firstServes : List Job → Set → Set → List ℕ → Bool
-firstServes jobs layer above quanta = every (λ k. not (layer k) || ltb 0 (firstBound jobs quanta layer above k)) (length jobs)
-
--- The quanta with which the set s of the jobs left can be taken by that test.
-pub firstQuantaFor : List Job → ℕ → ℕ → ℕ → ℕ → Option (List ℕ)
-firstQuantaFor jobs low high left s = smallest (quantumRanges low high (has s) (length jobs)) (firstServes jobs (has s) (has (rest left s)))
 
 -- ---- two tests that differ only after a smaller set that is taken
 
@@ -166,7 +156,7 @@ module _ (jobs : List Job) (costs : Costs jobs) (few : length jobs ≤ places) w
     find = quantaFor jobs low high
 
     abbrev findFirst : ℕ → ℕ → Option (List ℕ)
-    findFirst = firstQuantaFor jobs low high
+    findFirst = quantaBy (firstBound jobs) n low high
 
     abbrev taken : ℕ → ℕ
     taken = chosen find order
@@ -193,7 +183,7 @@ module _ (jobs : List Job) (costs : Costs jobs) (few : length jobs ≤ places) w
     same-found : (r s : ℕ)
         → ((q : List ℕ) (k : ℕ) → k < n → has s k ≡ true → bound jobs q (has s) (has (rest r s)) k ≡ firstBound jobs q (has s) (has (rest r s)) k)
         → find r s ≡ findFirst r s
-    unfolding quantaFor firstQuantaFor serves firstServes
+    unfolding quantaBy servesBy
     same-found r s h = ap (smallest (quantumRanges low high (has s) n)) (fun-ext (λ q. every-same _ _ n (λ k l. go q k (has s k) (h q k l))))
       where
         go : (q : List ℕ) (k : ℕ) (b : Bool) → (b ≡ true → bound jobs q (has s) (has (rest r s)) k ≡ firstBound jobs q (has s) (has (rest r s)) k)
@@ -277,19 +267,41 @@ module _ (jobs : List Job) (costs : Costs jobs) (few : length jobs ≤ places) w
 
     -- ---- all levels
 
-    same-stages : (level : ℕ) (stage : Stage) → stage .left < 2 ^ n → planFrom jobs find order level stage ≡ planFrom jobs findFirst order level stage
-    unfolding planFrom place
+    -- A set that is taken is placed alike.
+    module _ (level : ℕ) (stage : Stage) (b : stage .left < 2 ^ n) (q : List ℕ) where
+      abbrev own : ℕ
+      own = taken (stage .left)
+
+      abbrev over : ℕ
+      over = rest (stage .left) own
+
+      same-bound : (k : ℕ) → k < n → (c : Bool) → has own k ≡ c
+          → cond (has own k) (bound jobs q (has own) (has over) k) (getD (stage .bounds) k 0) ≡ cond (has own k) (firstBound jobs q (has own) (has over) k) (getD (stage .bounds) k 0)
+      same-bound k l true e = ap (λ (x : ℕ). cond (has own k) x (getD (stage .bounds) k 0)) (taken-first (stage .left) b k q l e)
+      same-bound k l false e = rw e
+
+      same-placed : place jobs level own q stage ≡ placeBy (firstBound jobs) jobs level own q stage
+      unfolding placeBy
+      same-placed =
+          let placed = place jobs level own q stage in
+          ap (λ (bounds : List ℕ). record { left = placed .left; settings = placed .settings; bounds = bounds }) (list-same _ _ n (λ k l. same-bound k l (has own k) refl))
+
+    same-stages : (level : ℕ) (stage : Stage) → stage .left < 2 ^ n → planFrom jobs find order level stage ≡ planFromBy (firstBound jobs) jobs findFirst order level stage
+    unfolding planFromBy placeBy
     same-stages zero stage b = refl
     same-stages (suc level) stage b = elim (ℕ-discrete (taken (stage .left)) 0) [
-      | yes z ↦ plan-stops jobs find order level stage z ∙ sym (plan-stops jobs findFirst order level stage (sym (same-taken (stage .left) b .0) ∙ z))
+      | yes z ↦
+          plan-stops (bound jobs) jobs find order level stage z
+          ∙ sym (plan-stops (firstBound jobs) jobs findFirst order level stage (sym (same-taken (stage .left) b .0) ∙ z))
       | no z ↦
           let r = stage .left in
           let s = taken r in
           let p : 0 < s = omega arith in
-          plan-goes jobs find order level stage s refl p
+          plan-goes (bound jobs) jobs find order level stage s refl p
           ∙ ap (λ (o : Option (List ℕ)). planFrom jobs find order level (place jobs (suc level) s (quantaIn o) stage)) (found-taken r b p)
-          ∙ same-stages level (place jobs (suc level) s (quantaIn (findFirst r s)) stage) (rest-lt n r s b)
-          ∙ sym (plan-goes jobs findFirst order level stage s (sym (same-taken r b .0)) p)
+          ∙ ap (planFrom jobs find order level) (same-placed (suc level) stage b (quantaIn (findFirst r s)))
+          ∙ same-stages level (placeBy (firstBound jobs) jobs (suc level) s (quantaIn (findFirst r s)) stage) (rest-lt n r s b)
+          ∙ sym (plan-goes (firstBound jobs) jobs findFirst order level stage s (sym (same-taken r b .0)) p)
     ]
 
     same-count : (levels r : ℕ) → r < 2 ^ n
@@ -307,7 +319,7 @@ module _ (jobs : List Job) (costs : Costs jobs) (few : length jobs ≤ places) w
     ]
 
     -- "The planner's answers therefore stay": the plan is the one by first bounds alone.
-    pub keys-stay : plan jobs low high ≡ planBy jobs findFirst order
+    pub keys-stay : plan jobs low high ≡ planWith (firstBound jobs) jobs low high
     unfolding plan start
     keys-stay =
         ap₂ (λ (end : Stage) (count : ℕ). record { placed = rest (firstJobs n) (end .left); considered = count; settings = end .settings; bounds = end .bounds })

@@ -15,7 +15,7 @@ use Rattle.records.specs.declared.job.Job.{Job}
 use Rattle.response.specs.Demand.{bound}
 use Rattle.response.proofs.Easier.{Lighter, easier, lighter-drop, lighter-alone, lighter-quanta, others-mono}
 use Rattle.assignment.specs.Takeable.{Permitted, Served, TakeableBy, CanTake}
-use Rattle.assignment.specs.Plan.{quantumRanges, serves, quantaFor}
+use Rattle.assignment.specs.Plan.{quantumRanges, serves, quantaFor, quantaBy}
 use Rattle.assignment.specs.Layers.{Fits}
 use Rattle.assignment.proofs.Smallest.{smallest-some, smallest-all}
 use Rattle.assignment.proofs.Serving.{Costs, in-range, ranged-fits, serves-at, serves-of}
@@ -97,7 +97,7 @@ module _ (jobs : List Job) (costs : Costs jobs) where
         ⊎-elim (λ a. absurd (d (sym (a k l e)))) (λ v. omega (arith, kept i il x v)) (t .permit i il x)))
 
     pub cannot-take : quantaFor jobs low high r s ≡ none → ⊥
-    unfolding quantaFor
+    unfolding quantaBy
     cannot-take e =
         smallest-all (quantumRanges low high (has s) (length jobs)) (serves jobs (has s) (has (rest r s))) e q′ fits
         (serves-of jobs (has s) (has (rest r s)) q′ (λ k l x.
@@ -105,7 +105,7 @@ module _ (jobs : List Job) (costs : Costs jobs) where
         (λ i il y. sym (has-rest i r s) ∙ y) (t .served k l x)))
 
   pub per-job : (low high : ℕ) → 0 < low → low ≤ high → Finds jobs low high (Permitted (length jobs) low high) (quantaFor jobs low high)
-  unfolding quantaFor
+  unfolding quantaBy
   per-job low high lp lh = record {
     drop = permit-drop (length jobs) low high;
     permits = λ r s q o e k l x. inr (found r s q e k l x);

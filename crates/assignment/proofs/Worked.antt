@@ -10,8 +10,8 @@ use Rattle.sets.specs.Order.{range, keep, ofSize, sizesFrom, inOrder, order, su
 use Rattle.records.specs.declared.job.Job.{Job}
 use Rattle.configuration.specs.declared.setting.Setting.{Setting}
 use Rattle.response.specs.Demand.{ceilDiv, work, interference, otherQuanta, layerShare, demand, least, finish, larger, run, largestResponse, bound}
-use Rattle.marker.specs.Bounds.{boundAt, boundsOf, passes}
-use Rattle.assignment.specs.Plan.{firstFrom, smallest, serves, quantaFor, settingIn, place, planFrom, start, plan}
+use Rattle.marker.specs.Bounds.{boundIn, boundsOf, passes}
+use Rattle.assignment.specs.Plan.{firstFrom, smallest, servesBy, quantaBy, settingIn, placeBy, planFromBy, start, plan}
 
 -- A job with its C, T and D, and a setting with its level, policy and quantum.
 abbrev job : ℕ → ℕ → ℕ → ℕ → Job
@@ -55,5 +55,5 @@ cases =
     ∷ []
 
 pub worked : map (λ c. answered (c .0)) cases ≡ map (λ c. c .1) cases
-unfolding answered k2 k7 cases ones onesIn every sum sumOver count listOf has rest within size firstJobs range keep ofSize sizesFrom inOrder order subsets firstTaken considered consideredCount ceilDiv work interference otherQuanta layerShare demand least finish larger run largestResponse bound boundAt firstFrom smallest serves quantaFor settingIn place planFrom start plan
+unfolding answered k2 k7 cases ones onesIn every sum sumOver count listOf has rest within size firstJobs range keep ofSize sizesFrom inOrder order subsets firstTaken considered consideredCount ceilDiv work interference otherQuanta layerShare demand least finish larger run largestResponse bound boundIn firstFrom smallest servesBy quantaBy settingIn placeBy planFromBy start plan
 worked = refl

@@ -2,3 +2,4 @@ pub mod Takeable
 pub mod Plan
 pub mod Guarantee
 pub mod Layers
+pub mod Keys

@@ -1,5 +1,5 @@
--- The planner's rule (01, "The planner's answer"), after Audsley-RR-FPP* of source document 000. The order of the sets and the search
--- for quanta are parameters. Assumes nothing.
+-- The planner's rule (01, "The planner's answer"), after Audsley-RR-FPP* of source document 000. The response-time test, the order of
+-- the sets and the search for quanta are parameters. Assumes nothing.
 use Prim.Native.Nat.{ℕ, zero, suc, _-_}
 use mathlib.Core.Bool.{Bool, true, false, cond, not, _||_}
 use mathlib.Core.List.{List, [], _∷_}
@@ -13,7 +13,7 @@ use Rattle.records.specs.Jobs.{jobAt}
 use Rattle.records.specs.declared.job.Job.{Job}
 use Rattle.configuration.specs.declared.setting.Setting.{Setting}
 use Rattle.configuration.specs.Settings.{notPlaced, fifo, roundRobin, settingAt}
-use Rattle.response.specs.Demand.{bound}
+use Rattle.response.specs.Demand.{ResponseTest, bound}
 
 -- ---- the smallest of the lists that pass a test, "compared at the first job where two differ"
 
@@ -37,13 +37,19 @@ quantaOver low high layer i = cond (layer i) (low, suc high - low) (0, 1)
 abbrev pub quantumRanges : ℕ → ℕ → Set → ℕ → List (ℕ × ℕ)
 quantumRanges low high layer n = listOf (quantaOver low high layer) n
 
--- Each job of the layer has a bound that is not 0.
-unfoldable pub serves : List Job → Set → Set → List ℕ → Bool
-serves jobs layer above quanta = every (λ k. not (layer k) || ltb 0 (bound jobs quanta layer above k)) (length jobs)
+-- Each job of the layer has a bound that is not 0, n being the number of jobs.
+unfoldable pub servesBy : ResponseTest → ℕ → Set → Set → List ℕ → Bool
+servesBy test n layer above quanta = every (λ k. not (layer k) || ltb 0 (test quanta layer above k)) n
+
+abbrev pub serves : List Job → Set → Set → List ℕ → Bool
+serves jobs = servesBy (bound jobs) (length jobs)
 
 -- The quanta with which the set s of the jobs left can be taken, the rest of them above.
-unfoldable pub quantaFor : List Job → ℕ → ℕ → ℕ → ℕ → Option (List ℕ)
-quantaFor jobs low high left s = smallest (quantumRanges low high (has s) (length jobs)) (serves jobs (has s) (has (rest left s)))
+unfoldable pub quantaBy : ResponseTest → ℕ → ℕ → ℕ → ℕ → ℕ → Option (List ℕ)
+quantaBy test n low high left s = smallest (quantumRanges low high (has s) n) (servesBy test n (has s) (has (rest left s)))
+
+abbrev pub quantaFor : List Job → ℕ → ℕ → ℕ → ℕ → Option (List ℕ)
+quantaFor jobs = quantaBy (bound jobs) (length jobs)
 
 abbrev pub isFound : Option (List ℕ) → Bool
 isFound none = false
@@ -74,12 +80,15 @@ abbrev pub put : {A : Type 0} → ℕ → Set → (ℕ → A) → (ℕ → A) �
 put n s f kept = listOf (λ k. cond (s k) (f k) (kept k)) n
 
 -- The set s takes a level with its quanta; "a placed job's bound has R's rest above it".
-unfoldable pub place : List Job → ℕ → ℕ → List ℕ → Stage → Stage
-place jobs level s quanta stage = record {
+unfoldable pub placeBy : ResponseTest → List Job → ℕ → ℕ → List ℕ → Stage → Stage
+placeBy test jobs level s quanta stage = record {
   left = rest (stage .left) s;
   settings = put (length jobs) (has s) (λ k. settingIn (jobAt jobs k .id) level (size s) (getD quanta k 0)) (settingAt (stage .settings));
-  bounds = put (length jobs) (has s) (bound jobs quanta (has s) (has (rest (stage .left) s))) (λ k. getD (stage .bounds) k 0);
+  bounds = put (length jobs) (has s) (test quanta (has s) (has (rest (stage .left) s))) (λ k. getD (stage .bounds) k 0);
 }
+
+abbrev pub place : List Job → ℕ → ℕ → List ℕ → Stage → Stage
+place jobs = placeBy (bound jobs) jobs
 
 -- ---- all levels
 
@@ -88,14 +97,17 @@ abbrev pub chosen : (ℕ → ℕ → Option (List ℕ)) → List ℕ → ℕ →
 chosen find sequence left = firstTaken (λ s. isFound (find left s)) (subsets left sequence)
 
 -- "From level n towards level 1"; it "stops when R is empty or when no subset can be taken".
-unfoldable pub planFrom : List Job → (ℕ → ℕ → Option (List ℕ)) → List ℕ → ℕ → Stage → Stage
-planFrom jobs find sequence zero stage = stage
-planFrom jobs find sequence (suc level) stage =
+unfoldable pub planFromBy : ResponseTest → List Job → (ℕ → ℕ → Option (List ℕ)) → List ℕ → ℕ → Stage → Stage
+planFromBy test jobs find sequence zero stage = stage
+planFromBy test jobs find sequence (suc level) stage =
     let s = chosen find sequence (stage .left) in
     elim (eqb s 0) [
       | true ↦ stage
-      | false ↦ planFrom jobs find sequence level (place jobs (suc level) s (quantaIn (find (stage .left) s)) stage)
+      | false ↦ planFromBy test jobs find sequence level (placeBy test jobs (suc level) s (quantaIn (find (stage .left) s)) stage)
     ]
+
+abbrev pub planFrom : List Job → (ℕ → ℕ → Option (List ℕ)) → List ℕ → ℕ → Stage → Stage
+planFrom jobs = planFromBy (bound jobs) jobs
 
 unfoldable pub start : List Job → Stage
 start jobs = record {
@@ -111,10 +123,10 @@ pub record Plan : Type 0 where
   pub settings : List Setting
   pub bounds : List ℕ
 
-abbrev pub planBy : List Job → (ℕ → ℕ → Option (List ℕ)) → List ℕ → Plan
-planBy jobs find sequence =
+abbrev pub planOver : ResponseTest → List Job → (ℕ → ℕ → Option (List ℕ)) → List ℕ → Plan
+planOver test jobs find sequence =
     let n = length jobs in
-    let end = planFrom jobs find sequence n (start jobs) in
+    let end = planFromBy test jobs find sequence n (start jobs) in
     record {
       placed = rest (firstJobs n) (end .left);
       considered = consideredCount (λ left s. isFound (find left s)) sequence n (firstJobs n);
@@ -122,6 +134,13 @@ planBy jobs find sequence =
       bounds = end .bounds;
     }
 
+abbrev pub planBy : List Job → (ℕ → ℕ → Option (List ℕ)) → List ℕ → Plan
+planBy jobs = planOver (bound jobs) jobs
+
+-- The plan of a list and a range by a test.
+abbrev pub planWith : ResponseTest → List Job → ℕ → ℕ → Plan
+planWith test jobs low high = planOver test jobs (quantaBy test (length jobs) low high) order
+
 -- The plan of a list and a range.
 unfoldable pub plan : List Job → ℕ → ℕ → Plan
-plan jobs low high = planBy jobs (quantaFor jobs low high) order
+plan jobs low high = planWith (bound jobs) jobs low high

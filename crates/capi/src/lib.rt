@@ -4,7 +4,8 @@ ghost use Rattle.records.specs.Refusals.{verdict};
 ghost use Rattle.records.specs.Jobs.{readJobs};
 ghost use Rattle.same_bytes.specs.Same.{sameBytes};
 ghost use Rattle.marker.specs.Marks.{boundsOutcome, markAnswer, markOutcome};
-ghost use Rattle.planner.specs.Plans.{planAnswer, planOutcome};
+ghost use Rattle.planner.specs.Plans.{planAnswer};
+ghost use Rattle.capi.specs.Promises.{WordPromise};
 ghost use Rattle.capi.specs.Words.{word, inWords, countValue, noValue, truthValue, planValue};
 use marker::MarkAnswer;
 use planner::PlanAnswer;
@@ -90,7 +91,7 @@ pub extern "C" fn ruzhtylen_plan(
     configuration: &mut [u8],
     bounds: &mut [u8],
 ) -> u32
-    ensures { λ r. ⌜ (r, (now (configuration .exit), now (bounds .exit))) ≡ inWords planValue (planOutcome (now (jobs .entry)) low high (now (configuration .entry)) (now (bounds .entry))) ⌝ }
+    ensures { λ r. ⌜ WordPromise (now (jobs .entry)) low high (now (configuration .entry)) (now (bounds .entry)) r (now (configuration .exit), now (bounds .exit)) ⌝ }
 {
     plan_word(planner::plan(jobs, low, high, &mut *configuration, &mut *bounds))
 }

@@ -41,19 +41,19 @@ module _ (jobs : List ℕ) (low high : ℕ) where
     size : length (flat settingBytes settings) ≡ settingSize * n
     size = length-flat settingBytes settingSize setting-width settings ∙ ap (λ (k : ℕ). settingSize * k) entries
 
-    back : settingsIn n (flat settingBytes settings) ≡ settings
-    back = ap (λ (k : ℕ). settingsIn k (flat settingBytes settings)) (sym entries) ∙ settings-back settings
+    pub settings-read : settingsOf jobs (flat settingBytes settings) ≡ settings
+    settings-read = ap (λ (k : ℕ). settingsIn k (flat settingBytes settings)) (sym entries) ∙ settings-back settings
 
     pub configuration-block : Accepts (readTests jobs low high (flat settingBytes settings))
     configuration-block =
         accepts-both (callTests jobs low high) (recordTests list low high (flat settingBytes settings)) call-ok
-        (eq-eqb _ _ size, subst (λ (x : List Setting). Accepts (settingTests list low high x)) (sym back) (c .1))
+        (eq-eqb _ _ size, subst (λ (x : List Setting). Accepts (settingTests list low high x)) (sym settings-read) (c .1))
 
     pub read-bytes : readConfiguration jobs low high (flat settingBytes settings) ≡ (given n, settingTable settings)
     unfolding readConfiguration
     read-bytes =
         accepts n (settingTable (settingsIn n (flat settingBytes settings))) (settingTable []) (readTests jobs low high (flat settingBytes settings)) configuration-block
-        ∙ ap (λ (x : List Setting). (given n, settingTable x)) back
+        ∙ ap (λ (x : List Setting). (given n, settingTable x)) settings-read
 
   -- What the writer makes of an accepted table is read back to the table.
   pub read-written : (count : ℕ) (settings : List Setting) (output : List ℕ) → count ≤ length settings → Accepts (writeTests jobs low high count settings (length output))

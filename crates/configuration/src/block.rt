@@ -18,7 +18,7 @@ use records::refusal::Counted;
 use records::refusal::Refusal;
 use records::refusal::Verdict;
 
-// The number of records, with the table beside it; the table is blank past the records, and whole where the block is refused.
+// The number of records, with the table beside it. The table is blank past the records; where the block is refused, all of it is blank.
 pub struct ConfigurationRead {
     pub answer: Counted,
     pub settings: [Setting; Job::MOST],
@@ -33,7 +33,8 @@ fn configuration_refused(refusal: Refusal) -> ConfigurationRead
     }
 }
 
-// Reads a configuration block for the first n jobs of a table and a range: refusals 7 to 10.
+// Reads a configuration block for the first n jobs of a table and a range. No entry; it judges the block alone (7 to 10), whatever the jobs
+// and the range are, and for n past 8 it takes all 8 jobs.
 pub fn read_settings(
     table: [Job; Job::MOST],
     n: usize,
@@ -57,7 +58,7 @@ pub fn read_settings(
     }
 }
 
-// The same for a configuration that is to be full: refusals 7 to 11.
+// The same for a configuration that is to be full. No entry; it judges the block alone (7 to 11).
 pub fn read_full(
     table: [Job; Job::MOST],
     n: usize,
@@ -92,7 +93,7 @@ pub fn read_configuration(jobs: &[u8], low: u8, high: u8, configuration: &[u8]) 
     read_settings(table, n, range, configuration)
 }
 
-// The settings of a block, which are not judged: its whole records, as far as a table has entries; blank past them.
+// The settings of a block. No entry; it judges nothing: its whole records count, as far as a table has entries, and past them it is blank.
 pub fn read_unjudged(configuration: &[u8]) -> [Setting; Job::MOST]
     ensures { λ r. ⌜ r ≡ settingTable (settingsIn (min (length (now (configuration .entry)) / settingSize) mostJobs) (now (configuration .entry))) ⌝ }
 {
@@ -100,7 +101,7 @@ pub fn read_unjudged(configuration: &[u8]) -> [Setting; Job::MOST]
     bytes::decode(configuration, count)
 }
 
-// Writes the first n settings of a table, which are not judged: refusal 12.
+// Writes the first n settings of a table. No entry; it judges the room alone (12), and for n past 8 it writes all 8 entries.
 pub fn write_settings(settings: [Setting; Job::MOST], n: usize, output: &mut [u8]) -> Counted
     ensures { λ r. ⌜ (counted r, now (output .exit)) ≡ writeRecords settingSize settingBytes (take n settings) (now (output .entry)) ⌝ }
 {

@@ -79,7 +79,7 @@ fn is_levelled(settings: [Setting; Job::MOST], n: usize, setting: Setting) -> bo
 }
 
 // What a setting is held to: refusals 8, 9, 10 and 11.
-pub enum SettingRule {
+pub(crate) enum SettingRule {
     Id,
     Shape,
     Sharing,
@@ -111,7 +111,7 @@ fn setting_ok(
 }
 
 // Whether the rule holds of each of the first n settings.
-pub fn all_ok(
+pub(crate) fn all_ok(
     rule: SettingRule,
     jobs: [Job; Job::MOST],
     settings: [Setting; Job::MOST],

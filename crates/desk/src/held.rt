@@ -30,7 +30,8 @@ fn edit_first(
     Edited { answer, jobs }
 }
 
-// The same for any n; all entries count where n is more than there are.
+// The same for any n, for programs that hold a table and lend none. No entry; refusals 1, 4 and 5, and all entries count where n is more
+// than there are.
 pub fn edit_held(
     jobs: [Job; ROOM],
     n: usize,

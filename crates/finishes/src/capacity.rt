@@ -21,7 +21,7 @@ fn at_most(number: u64, most: u64) -> u64
     number
 }
 
-// A job's utilisation, rounded down; the whole where it is more.
+// A job's utilisation, rounded down; the whole where it is more, and 0 where the period is 0. No entry; it judges nothing.
 pub fn utilisation(job: Job) -> u32
     ensures { λ r. ⌜ (r ≡ utilisation job) × (r ≤ whole) ⌝ }
 {
@@ -37,7 +37,7 @@ pub struct Capacity {
     pub carry: u32,
 }
 
-// The same, in one pass over the places.
+// The same, in one pass over the places. No entry; it judges nothing: its contract says what any numbers give.
 pub fn capacity_of(jobs: [Job; Job::MOST], utilisations: [u32; Job::MOST], set: u8) -> Capacity
     ensures { λ r. ⌜ (r .spare ≡ spareOf utilisations (has set)) × (r .spare ≤ whole) × (r .carry ≡ carried (record { jobs = jobs; utilisations = utilisations }) (has set)) ⌝ }
 {

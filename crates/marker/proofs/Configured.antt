@@ -23,20 +23,20 @@ use Rattle.search.specs.Search.{plainWorkload, boundBy}
 use Rattle.response.proofs.Easier.{bound-same, bound-take}
 use Rattle.search.proofs.BothBounds.{bound-plain}
 use Rattle.search.specs.declared.workload.Workload.{Workload}
-use Rattle.marker.specs.Bounds.{quantaOf, layerOf, aboveOf, boundAt, boundsOf, isServed, allServed}
+use Rattle.marker.specs.Bounds.{quantaOf, layerOf, aboveOf, boundAt, boundIn, boundsOf, isServed, allServed}
 use Rattle.marker.specs.Marks.{boundSize, marked}
 
 -- ---- a job's bound, by its level
 
 module _ (jobs : List Job) (settings : List Setting) (k : ℕ) where
   pub bound-unplaced : levelAt settings k ≡ 0 → boundAt jobs settings k ≡ 0
-  unfolding boundAt
-  bound-unplaced e = rw (eq-eqb (levelAt settings k) 0 e, boundAt)
+  unfolding boundIn
+  bound-unplaced e = rw (eq-eqb (levelAt settings k) 0 e, boundIn)
 
   pub bound-placed : (levelAt settings k ≡ 0 → ⊥)
       → boundAt jobs settings k ≡ bound jobs (quantaOf settings) (layerOf settings (levelAt settings k)) (aboveOf settings (levelAt settings k)) k
-  unfolding boundAt
-  bound-placed e = rw (ne-eqb (levelAt settings k) 0 e, boundAt)
+  unfolding boundIn
+  bound-placed e = rw (ne-eqb (levelAt settings k) 0 e, boundIn)
 
 pub quantum-at : (settings : List Setting) (i : ℕ) → getD (quantaOf settings) i 0 ≡ settingAt settings i .quantum
 quantum-at settings i = elim (decLe (suc i) (length settings)) [
@@ -57,7 +57,7 @@ module _ (jobs : List Job) (a b : List Setting) (same : (i : ℕ) → i < length
   quantum-same i l = quantum-at a i ∙ ap (λ (s : Setting). s .quantum) (same i l) ∙ sym (quantum-at b i)
 
   pub bound-settings : (k : ℕ) → k < length jobs → boundAt jobs a k ≡ boundAt jobs b k
-  unfolding boundAt
+  unfolding boundIn
   bound-settings k l =
       ap₂ (λ (v x : ℕ). elim (eqb v 0) [ true ↦ 0 | false ↦ x ]) (level-same k l)
       (bound-same jobs k (quantaOf a) (quantaOf b) (layerOf a (levelAt a k)) (layerOf b (levelAt b k)) (aboveOf a (levelAt a k)) (aboveOf b (levelAt b k))

@@ -11,7 +11,7 @@ use Rattle.records.specs.declared.job.Job.{Job}
 use Rattle.configuration.specs.declared.setting.Setting.{Setting}
 use Rattle.configuration.specs.Settings.{settingAt, levelAt}
 use Rattle.configuration.specs.Configuration.{full}
-use Rattle.response.specs.Demand.{bound}
+use Rattle.response.specs.Demand.{ResponseTest, bound}
 
 -- The quanta of a configuration, in job order.
 abbrev pub quantaOf : List Setting → List ℕ
@@ -24,11 +24,14 @@ layerOf settings level i = eqb (levelAt settings i) level
 abbrev pub aboveOf : List Setting → ℕ → Set
 aboveOf settings level i = ltb (levelAt settings i) level
 
--- The bound of the job at place k. A job not placed has level 0: its bound is 0, and it "counts as above every placed one".
-unfoldable pub boundAt : List Job → List Setting → ℕ → ℕ
-boundAt jobs settings k =
+-- The bound of the job at place k by a test. A job not placed has level 0: its bound is 0, and it "counts as above every placed one".
+unfoldable pub boundIn : ResponseTest → List Setting → ℕ → ℕ
+boundIn test settings k =
     let level = levelAt settings k in
-    elim (eqb level 0) [ true ↦ 0 | false ↦ bound jobs (quantaOf settings) (layerOf settings level) (aboveOf settings level) k ]
+    elim (eqb level 0) [ true ↦ 0 | false ↦ test (quantaOf settings) (layerOf settings level) (aboveOf settings level) k ]
+
+abbrev pub boundAt : List Job → List Setting → ℕ → ℕ
+boundAt jobs = boundIn (bound jobs)
 
 -- The bounds, in job order.
 abbrev pub boundsOf : List Job → List Setting → List ℕ

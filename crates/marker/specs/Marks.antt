@@ -4,7 +4,7 @@ use mathlib.Core.Bool.{Bool, true, false}
 use mathlib.Core.List.{List, _++_}
 use lib.ListN.{length}
 use Rattle.records.specs.Refusals.{Answer, refused, given, number, Tests, outcome}
-use Rattle.records.specs.Records.{wordBytes, written, roomTests}
+use Rattle.records.specs.Records.{wordOf, wordBytes, chunks, written, roomTests}
 use Rattle.records.specs.Jobs.{jobList}
 use Rattle.records.specs.Calls.{callTests}
 use Rattle.records.specs.declared.job.Job.{Job}
@@ -25,6 +25,10 @@ markAnswer (Refused refusal) = refused (number refusal)
 -- The size of a bound in bytes.
 abbrev pub boundSize : ℕ
 boundSize = 2
+
+-- The bounds of n jobs in a block.
+abbrev pub boundsIn : ℕ → List ℕ → List ℕ
+boundsIn n block = chunks boundSize wordOf n block
 
 -- The output with the bounds.
 abbrev pub marked : List Job → List Setting → List ℕ → List ℕ

@@ -12,7 +12,7 @@ use records::refusal::Refusal;
 // The size of a bound, in bytes.
 pub const BOUND_SIZE: usize = 2;
 
-// Writes the first n bounds of a table: refusal 12.
+// Writes the first n bounds of a table. No entry; it judges the room alone (12), and for n past 8 it writes all 8 entries.
 pub fn write_bounds(bounds: [u16; Job::MOST], n: usize, output: &mut [u8]) -> Counted
     ensures { λ r. ⌜ (counted r, now (output .exit)) ≡ writeRecords boundSize wordBytes (take n bounds) (now (output .entry)) ⌝ }
 {

@@ -20,7 +20,7 @@ use records::refusal::Refusal;
 use records::refusal::Verdict;
 use search::workload::Workload;
 
-// The bounds of the first n jobs.
+// The bounds of the first n jobs. No entry; it judges nothing: any jobs and settings have the bounds that the definition gives.
 pub fn bounds_of(
     jobs: [Job; Job::MOST],
     settings: [Setting; Job::MOST],
@@ -54,7 +54,7 @@ fn none_zero(bounds: [u16; Job::MOST], n: usize) -> bool
     true
 }
 
-// Whether each of the first n jobs is served.
+// Whether each of the first n jobs is served. No entry; it judges nothing.
 pub fn all_served(jobs: [Job; Job::MOST], settings: [Setting; Job::MOST], n: usize) -> bool
     ensures { λ r. ⌜ r ≡ allServed (take n jobs) (take n settings) ⌝ }
 {
@@ -77,7 +77,7 @@ fn fill_bounds(
 }
 
 // Writes the bounds of the first n jobs: refusal 12.
-pub fn put_bounds(
+pub(crate) fn put_bounds(
     jobs: [Job; Job::MOST],
     settings: [Setting; Job::MOST],
     n: usize,
@@ -94,7 +94,7 @@ pub fn put_bounds(
 }
 
 // The same, with whether each of the first n jobs is served.
-pub fn mark_jobs(
+pub(crate) fn mark_jobs(
     jobs: [Job; Job::MOST],
     settings: [Setting; Job::MOST],
     n: usize,

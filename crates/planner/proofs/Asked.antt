@@ -21,7 +21,7 @@ use Rattle.search.specs.Search.{workload, boundBy}
 use Rattle.search.specs.declared.workload.Workload.{Workload}
 use Rattle.response.proofs.Easier.{bound-take}
 use Rattle.search.proofs.BothBounds.{bound-found}
-use Rattle.assignment.specs.Plan.{quantaFor}
+use Rattle.assignment.specs.Plan.{quantaFor, quantaBy}
 use Rattle.assignment.specs.Layers.{Hopeless, Settles}
 use Rattle.assignment.proofs.Serving.{Costs}
 use Rattle.assignment.proofs.Settling.{lowest-stands, says-smallest}
@@ -85,11 +85,11 @@ module _ (question : Question) (A : Accepted question) (left set : ℕ) (left-le
     -- What settling comes to.
     pub ends : (v : List ℕ) (b : Bool) (u : List ℕ) → Settles (listed question) (question .range .low) (question .range .high) (has set) (has above) (has set) v b u
         → cond {A = Option (List ℕ)} b (some (take (question .n) u)) none ≡ quantaFor (listed question) (question .range .low) (question .range .high) left set
-    unfolding quantaFor
+    unfolding quantaBy
     ends v b u S =
         ap (λ (n : ℕ). cond {A = Option (List ℕ)} b (some (take n u)) none) (sym (listed-length question A))
         ∙ rw (← is) (says-smallest (listed question) (listed-costs question A) (question .range .low) (question .range .high) (A .low) (has set) (has above) v b u S)
 
     pub out : Hopeless (listed question) (question .range .low) (question .range .high) (has set) (has above) → quantaFor (listed question) (question .range .low) (question .range .high) left set ≡ none
-    unfolding quantaFor
+    unfolding quantaBy
     out h = rw (← is) h

@@ -4,13 +4,14 @@ use mathlib.Core.Path.{_≡_, refl, sym, ap, ap₂, _∙_}
 use mathlib.Core.List.{List}
 use native.Mathlib.Omega.{arith}
 use lib.ListN.{length, take}
+use Rattle.response.specs.Demand.{bound}
 use Rattle.sets.specs.Sets.{firstJobs}
 use Rattle.sets.specs.Order.{subsets, considered, consideredCount}
 use Rattle.sets.proofs.Parts.{rest-lt}
 use Rattle.sets.proofs.Considering.{first-le, considered-none, considered-stops, considered-goes}
 use Rattle.records.specs.Limits.{mostJobs}
 use Rattle.records.specs.declared.job.Job.{Job}
-use Rattle.assignment.specs.Plan.{quantaIn, chosen, Stage, place, planFrom, start}
+use Rattle.assignment.specs.Plan.{quantaIn, chosen, Stage, place, placeBy, planFrom, planFromBy, start}
 use Rattle.assignment.proofs.Plays.{plan-stops, plan-goes}
 use Rattle.assignment.proofs.Planned.{start-less}
 use Rattle.planner.specs.declared.quanta.Question.{Question}
@@ -48,7 +49,7 @@ module _ (question : Question) (A : Accepted question) (sequence : List ℕ) (sh
       }
 
   pub reaches-end : (progress : Progress) → Reaches question sequence 0 progress → progress ≡ progressOf (lastStage question sequence) (countAll question sequence)
-  unfolding planFrom
+  unfolding planFromBy
   reaches-end progress R =
       R .shows ∙ ap₂ progressOf (R .ends) (omega (arith, R .count, considered-none (takeable question) sequence (R .stage .left)))
 
@@ -81,7 +82,7 @@ module _ (question : Question) (A : Accepted question) (sequence : List ℕ) (sh
         let total : progress .considered + choice .considered ≡ countAll question sequence = omega (arith, R .count, count-is, considered-stops (takeable question) sequence v (R .stage .left) first) in
         e
         ∙ ap (λ (p : Progress). record { left = p .left; considered = progress .considered + choice .considered; settings = p .settings; bounds = p .bounds }) (R .shows)
-        ∙ ap₂ progressOf (sym (plan-stops jobs (finds question) sequence v (R .stage) first) ∙ R .ends) total
+        ∙ ap₂ progressOf (sym (plan-stops (bound jobs) jobs (finds question) sequence v (R .stage) first) ∙ R .ends) total
 
     -- A set is taken: the next level goes on from it.
     module _ (some-set : choice .set ≡ 0 → ⊥) where
@@ -93,7 +94,7 @@ module _ (question : Question) (A : Accepted question) (sequence : List ℕ) (sh
 
       pub reaches-next : (r : Progress) → r ≡ progressOf (place jobs (suc v) (choice .set) (take (question .n) (choice .quanta)) (stageOf progress)) (progress .considered + choice .considered)
           → Reaches question sequence v r
-      unfolding place
+      unfolding placeBy
       reaches-next r e =
           let next = place jobs (suc v) (choice .set) (take (question .n) (choice .quanta)) (R .stage) in
           let sum : r .considered ≡ progress .considered + choice .considered = ap (λ (p : Progress). p .considered) e in
@@ -109,7 +110,7 @@ module _ (question : Question) (A : Accepted question) (sequence : List ℕ) (sh
             shows = e ∙ ap₂ progressOf same (sym sum);
             less = rest-lt (question .n) (R .stage .left) (choice .set) (R .less);
             ends =
-                sym (plan-goes jobs (finds question) sequence v (R .stage) (choice .set) first taken
+                sym (plan-goes (bound jobs) jobs (finds question) sequence v (R .stage) (choice .set) first taken
                 ∙ ap (λ (q : List ℕ). planFrom jobs (finds question) sequence v (place jobs (suc v) (choice .set) q (R .stage))) quanta)
                 ∙ R .ends;
             count = omega (arith, sum, count-is, R .count, considered-goes (takeable question) sequence v (R .stage .left) (choice .set) first taken);

@@ -3,3 +3,4 @@ pub mod Progressing
 pub mod LevelByLevel
 pub mod Answering
 pub mod Promising
+pub mod Holding

@@ -18,7 +18,7 @@ use Rattle.configuration.specs.declared.setting.Setting.{Setting}
 use Rattle.configuration.specs.Settings.{blankSetting, settingAt, settingTable}
 use Rattle.response.specs.Demand.{bound}
 use Rattle.response.proofs.Easier.{bound-same}
-use Rattle.assignment.specs.Plan.{Stage, settingIn, settingLeft, put, place, start}
+use Rattle.assignment.specs.Plan.{Stage, settingIn, settingLeft, put, place, placeBy, start}
 use Rattle.planner.specs.declared.quanta.Question.{Question}
 use Rattle.planner.specs.declared.levels.Progress.{Progress}
 use Rattle.planner.specs.Questions.{listed, Accepted}
@@ -73,7 +73,7 @@ module _ (question : Question) (A : Accepted question) where
     pub place-is : (left count : ℕ) (settings : List Setting) (bounds : List ℕ) → left ≡ rest (p .left) set → settings ≡ settingTable (settingsWith question (p .settings) level set quanta)
         → bounds ≡ table mostJobs 0 (boundsWith question (p .bounds) set left quanta)
         → progress left count settings bounds ≡ progressOf (place jobs level set (take n quanta) (stageOf p)) count
-    unfolding place
+    unfolding placeBy
     place-is left count settings bounds el es eb =
         ap₂ (λ (y : List Setting) (z : List ℕ). progress left count y z) (es ∙ ap settingTable (sym settings-are)) (eb ∙ ap (table mostJobs 0) (sym (bounds-are left)))
         ∙ ap (λ (x : ℕ). progressOf (record {
@@ -85,7 +85,7 @@ module _ (question : Question) (A : Accepted question) where
 -- A level sees the tables of a stage as it sees the stage.
 pub place-table : (jobs : List Job) (level set : ℕ) (quanta : List ℕ) (stage : Stage) (count : ℕ)
     → place jobs level set quanta (stageOf (progressOf stage count)) ≡ place jobs level set quanta stage
-unfolding place
+unfolding placeBy
 place-table jobs level set quanta stage count =
     let n = length jobs in
     ap₂ (λ (x : List Setting) (y : List ℕ). record { left = rest (stage .left) set; settings = x; bounds = y })

@@ -64,7 +64,7 @@ fn plan_jobs(jobs: [Job; Job::MOST], n: usize, range: Range) -> TablePlan
     }
 }
 
-// Plans the first n jobs of a table for a range: refusals 1, 2, 3, 5 and 6.
+// Plans the first n jobs of a table for a range. No entry; it judges them as the entry does (1, 2, 3, 5, 6), and writes nothing.
 pub fn plan_table(jobs: [Job; Job::MOST], n: usize, range: Range) -> TablePlan
     ensures { λ r. ⌜ TablePromise jobs n range (planned r) ⌝ }
 {
@@ -76,7 +76,7 @@ pub fn plan_table(jobs: [Job; Job::MOST], n: usize, range: Range) -> TablePlan
 }
 
 // The same, with the configuration and the bounds written to the two outputs: refusal 12 after the others.
-pub fn put_plan(
+pub(crate) fn put_plan(
     jobs: [Job; Job::MOST],
     n: usize,
     range: Range,

@@ -13,7 +13,7 @@ use borrow.Author.Tests.{lt-leb, le-leb, leb-true}
 use Rattle.sets.specs.Places.{listOf}
 use Rattle.sets.proofs.Places.{list-suc, list-length, list-at}
 use Rattle.records.specs.Refusals.{Answer, given, refused}
-use Rattle.records.specs.Records.{word, wordBytes, flat, chunks, table, written, roomTests, writeRecords}
+use Rattle.records.specs.Records.{word, wordOf, wordBytes, flat, chunks, table, written, roomTests, writeRecords}
 use Rattle.records.proofs.Outcomes.{gives}
 
 -- ---- lists of records
@@ -234,3 +234,7 @@ word-low high low l = omega arith
 pub word-width : (x : ℕ) → length (wordBytes x) ≡ 2
 unfolding wordBytes
 word-width x = refl
+
+pub words-back : (xs : List ℕ) → chunks 2 wordOf (length xs) (flat wordBytes xs) ≡ xs
+unfolding wordOf wordBytes
+words-back xs = chunks-flat 2 wordBytes wordOf word-width (λ x s. word-back x) xs

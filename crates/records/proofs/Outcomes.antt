@@ -1,11 +1,13 @@
 -- Laws of the outcome of a call by its tests. Assumes nothing.
-use Prim.Native.Nat.{ℕ}
+use Prim.Native.Nat.{ℕ, _<_}
 use mathlib.Core.Path.{_≡_, refl, sym, ap, _∙_}
 use mathlib.Core.List.{[], _∷_, _++_, append-nil}
 use mathlib.Core.Bool.{Bool, true, false, cond}
 use native.Mathlib.Omega.{arith}
+use lib.Dec.{lit<}
 use Rattle.records.specs.Refusals.{Answer, refused, given, number, Tests, outcome, answer, verdict, handed, refusalOf, turned, Accepts}
 use Rattle.records.specs.declared.refusal.Refusal.{Refusal}
+use Rattle.records.specs.declared.refusal.Refusal.the-variants.{JobCount, JobId, IdOrder, Place, JobTimes, QuantumRange, ConfigurationSize, ConfigurationIds, RecordShape, LevelSharing, NotPlaced, OutputLength}
 use Rattle.records.specs.declared.refusal.Verdict.{Verdict}
 use Rattle.records.specs.declared.refusal.Verdict.the-variants.{Accepted, Refused as NotAccepted}
 use Rattle.records.specs.declared.refusal.Counted.{Counted}
@@ -93,6 +95,23 @@ accepts-first (t ∷ tests) later h = (h .0, accepts-first tests later (h .1))
 pub accepts-second : (tests later : Tests) → Accepts (tests ++ later) → Accepts later
 accepts-second [] later h = h
 accepts-second (t ∷ tests) later h = accepts-second tests later (h .1)
+
+-- A refusal's number is a byte that is not 0.
+pub number-byte : (refusal : Refusal) → (0 < number refusal) × (number refusal < 256)
+number-byte refusal = elim refusal [
+  | JobCount ↦ (lit< tt, lit< tt)
+  | JobId ↦ (lit< tt, lit< tt)
+  | IdOrder ↦ (lit< tt, lit< tt)
+  | Place ↦ (lit< tt, lit< tt)
+  | JobTimes ↦ (lit< tt, lit< tt)
+  | QuantumRange ↦ (lit< tt, lit< tt)
+  | ConfigurationSize ↦ (lit< tt, lit< tt)
+  | ConfigurationIds ↦ (lit< tt, lit< tt)
+  | RecordShape ↦ (lit< tt, lit< tt)
+  | LevelSharing ↦ (lit< tt, lit< tt)
+  | NotPlaced ↦ (lit< tt, lit< tt)
+  | OutputLength ↦ (lit< tt, lit< tt)
+]
 
 -- ---- a part of the way in: its answer decides what a call with more tests comes to, whatever tests follow
 

@@ -7,9 +7,12 @@ use lib.Dec.{leb}
 use lib.ListN.{length, getD, drop, replicate}
 use Rattle.records.specs.Refusals.{Answer, Tests, outcome}
 
--- Two bytes as a number, and a number as two bytes.
+-- Two bytes as a number, the number in the first bytes of a block, and a number as two bytes.
 abbrev pub word : ℕ → ℕ → ℕ
 word high low = high * 256 + low
+
+unfoldable pub wordOf : List ℕ → ℕ
+wordOf block = word (getD block 0 0) (getD block 1 0)
 
 unfoldable pub wordBytes : ℕ → List ℕ
 wordBytes x = x / 256 ∷ x % 256 ∷ []

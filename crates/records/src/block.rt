@@ -14,7 +14,7 @@ use crate::refusal::Counted;
 use crate::refusal::Refusal;
 use crate::refusal::Verdict;
 
-// The number of jobs, with the table beside it; the table is blank past the jobs, and whole where the block is refused.
+// The number of jobs, with the table beside it. The table is blank past the jobs; where the block is refused, all of it is blank.
 pub struct JobsRead {
     pub answer: Counted,
     pub table: [Job; Job::MOST],
@@ -50,7 +50,7 @@ pub fn read_jobs(jobs: &[u8]) -> JobsRead
     }
 }
 
-// The jobs of a block, which are not judged: its whole records, as far as a table has entries; blank past them.
+// The jobs of a block. No entry; it judges nothing: its whole records count, as far as a table has entries, and past them it is blank.
 pub fn read_unjudged(jobs: &[u8]) -> [Job; Job::MOST]
     ensures { λ r. ⌜ r ≡ jobTable (jobsIn (min (jobCount (now (jobs .entry))) mostJobs) (now (jobs .entry))) ⌝ }
 {
@@ -58,7 +58,7 @@ pub fn read_unjudged(jobs: &[u8]) -> [Job; Job::MOST]
     bytes::decode(jobs, count)
 }
 
-// Writes the first n jobs of a table, which are not judged: refusal 12.
+// Writes the first n jobs of a table. No entry; it judges the room alone (12), and for n past 8 it writes all 8 entries.
 pub fn write_unjudged(table: [Job; Job::MOST], n: usize, output: &mut [u8]) -> Counted
     ensures { λ r. ⌜ (counted r, now (output .exit)) ≡ writeRecords jobSize jobBytes (take n table) (now (output .entry)) ⌝ }
 {

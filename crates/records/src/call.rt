@@ -14,7 +14,7 @@ pub struct Call {
     pub range: Range,
 }
 
-// Reads a job block and a range: refusals 1, 2, 3, 5 and 6.
+// Reads a job block and a range. No entry; it judges both (1, 2, 3, 5, 6), as every call with a range does first.
 pub fn read_call(jobs: &[u8], low: u8, high: u8) -> Call
     ensures { λ r. ⌜ asked r ≡ readCall (now (jobs .entry)) low high ⌝ }
 {

@@ -43,7 +43,7 @@ impl Job {
         deadline: 0,
     };
 
-    // How many entries of a table a count takes: all of them, where it is past their number.
+    // How many entries of a table a count takes: all of them, where it is past their number. No entry.
     pub fn at_most(count: usize) -> usize
         ensures { λ r. ⌜ r ≡ min count mostJobs ⌝ }
     {
@@ -53,7 +53,7 @@ impl Job {
         count
     }
 
-    // Whether refusal 5 lets these numbers by.
+    // Whether refusal 5 lets these numbers by. No entry.
     pub fn times_ok(cost: u16, period: u16, deadline: u16) -> bool
         ensures { λ r. ⌜ r ≡ timesOk cost period deadline ⌝ }
     {

@@ -82,7 +82,7 @@ pub(crate) fn judge_size(size: usize) -> Verdict
 }
 
 // Judges a table of n jobs: refusals 1, 2, 3 and 5.
-pub fn judge_table(table: [Job; Job::MOST], n: usize) -> Verdict
+pub(crate) fn judge_table(table: [Job; Job::MOST], n: usize) -> Verdict
     ensures { λ r. ⌜ verdict r ≡ answer (tableTests n table) tt ⌝ }
 {
     if n < 1 {
@@ -94,7 +94,7 @@ pub fn judge_table(table: [Job; Job::MOST], n: usize) -> Verdict
     judge_jobs(table, n)
 }
 
-// Judges a table of n jobs and a range: refusals 1, 2, 3, 5 and 6.
+// Judges a table of n jobs and a range. No entry; refusals 1, 2, 3, 5 and 6.
 pub fn judge_question(table: [Job; Job::MOST], n: usize, range: Range) -> Verdict
     ensures { λ r. ⌜ verdict r ≡ answer (questionTests n table range) tt ⌝ }
 {

@@ -52,7 +52,7 @@ pub enum Counted {
     Refused(Refusal),
 }
 
-// The refusal of an answer; JobCount where there is none.
+// The refusal of an answer. No entry; it gives JobCount where there is none.
 pub fn refusal_of(answer: Counted) -> Refusal
     ensures { λ r. ⌜ r ≡ refusalOf answer ⌝ }
 {

@@ -36,7 +36,7 @@ module _ (jobs : List Job) (q : List ℕ) (none-late : NoDelay jobs) where
       let limit : j * job .period + job .deadline - job .delay ≡ j * job .period + job .deadline = omega (arith, none-late k) in
       ap₂ plusDelay (none-late k) (ap₂ (λ (f : ℕ → ℕ) (d : ℕ). least f d 1) (fun-ext same) limit) ∙ plus-no-delay (undelayedFinish jobs q s a k j)
 
-  first-undelayed : (s a : Set) (k : ℕ) → firstBound jobs q s a k ≡ undelayedFirst jobs q s a k
+  pub first-undelayed : (s a : Set) (k : ℕ) → firstBound jobs q s a k ≡ undelayedFirst jobs q s a k
   unfolding largestResponse undelayedFirst
   first-undelayed s a k = ap (λ (f : ℕ → ℕ). run f (jobAt jobs k .period) mostInstances 0 none .response) (fun-ext (finish-undelayed s a k))
 

@@ -119,6 +119,10 @@ secondBound jobs quanta layer above k = largestResponse jobs quanta (only k) (wi
 abbrev pub lesser : ℕ → ℕ → ℕ
 lesser first second = elim (eqb first 0) [ true ↦ second | false ↦ elim (eqb second 0) [ true ↦ first | false ↦ min first second ] ]
 
+-- A response-time test of a list of jobs: the bound that it gives for quanta, a layer, a set above and a place.
+abbrev pub ResponseTest : Type 0
+ResponseTest = List ℕ → Set → Set → ℕ → ℕ
+
 -- The bound of the job at place k in a layer with a set above: the lesser of its two bounds, each the largest response of a run of its
 -- own. A job of policy 1 has no neighbours, so that its two bounds are one.
 unfoldable pub bound : List Job → List ℕ → Set → Set → ℕ → ℕ

@@ -20,6 +20,11 @@ undelayedDemand jobs quanta layer above k own t = own + layerShare (length jobs)
 unfoldable pub oneInstanceBound : List Job → List ℕ → Set → Set → ℕ → ℕ
 oneInstanceBound jobs quanta layer above k = least (undelayedDemand jobs quanta layer above k (jobAt jobs k .cost)) (jobAt jobs k .deadline) 1
 
+-- E2's bound over 01's: the lesser of 01's two, in its layer and with the neighbours as if they were above.
+abbrev pub oneInstanceLesser : List Job → List ℕ → Set → Set → ℕ → ℕ
+oneInstanceLesser jobs quanta layer above k =
+    lesser (oneInstanceBound jobs quanta layer above k) (oneInstanceBound jobs quanta (only k) (withNeighbours layer above k) k)
+
 -- The finish of instance j (E1), sought up to j·T + D.
 unfoldable pub undelayedFinish : List Job → List ℕ → Set → Set → ℕ → ℕ → ℕ
 undelayedFinish jobs quanta layer above k j =

@@ -58,7 +58,7 @@ fn same_parts(a: &[u8], b: &[u8], from: usize, end: usize, size: usize) -> bool
     true
 }
 
-// Whether two blocks are the same bytes, one byte at a time.
+// Whether two blocks are the same bytes, one byte at a time. No entry, though it has the entry's contract.
 pub fn same_singly(a: &[u8], b: &[u8]) -> bool
     ensures { λ r. ⌜ r ≡ sameBytes (now (a .entry)) (now (b .entry)) ⌝ }
 {

@@ -10,12 +10,13 @@ use crate::unassignable;
 use finishes::capacity;
 use records::job::Job;
 
+// What bounds are found from. Only this crate can set its parts, so that a workload is always one that `plain` or `new` made.
 pub struct Workload {
     pub jobs: [Job; Job::MOST],
     // The utilisation of each job.
-    pub utilisations: [u32; Job::MOST],
+    pub(crate) utilisations: [u32; Job::MOST],
     // Jobs of which none is served alone below the others: such a job needs no second bound where the others are above it or beside it.
-    pub unassignable: u8,
+    pub(crate) unassignable: u8,
 }
 
 // Whether the first bound is the bound, for a reason that is known without the second.
@@ -53,7 +54,7 @@ fn lesser(first: u16, second: u16) -> u16
 }
 
 impl Workload {
-    // No job is known to be unassignable.
+    // No job is known to be unassignable. No entry; it judges nothing: any jobs make a workload.
     pub fn plain(jobs: [Job; Job::MOST]) -> Workload
         ensures { λ r. ⌜ r ≡ plainWorkload jobs ⌝ }
     {
@@ -70,7 +71,7 @@ impl Workload {
         }
     }
 
-    // With the jobs that are unassignable, for callers that ask for the bounds of many sets.
+    // With the jobs that are unassignable, for callers that ask for the bounds of many sets. No entry; it judges nothing.
     pub fn new(jobs: [Job; Job::MOST]) -> Workload
         ensures { λ r. ⌜ r ≡ workload jobs ⌝ }
     {
@@ -85,7 +86,7 @@ impl Workload {
     }
 
     // The bound of the job at a place, in a layer with a set above: the lesser of its two bounds. The second is the bound of the job
-    // alone with its neighbours above too.
+    // alone with its neighbours above too. No entry; it judges nothing: its contract says what any numbers give.
     pub fn bound(self, quanta: [u8; Job::MOST], layer: u8, above: u8, job: usize) -> u16
         ensures { λ r. ⌜ r ≡ boundBy self quanta (has layer) (has above) job ⌝ }
     {

@@ -1,16 +1,16 @@
 -- The text made of a plan's tables is the key. Assumes nothing.
-use Prim.Native.Nat.{ℕ, zero, suc, _^_, _≤_, _<_}
+use Prim.Native.Nat.{ℕ, zero, suc, _+_, _^_, _≤_, _<_}
 use mathlib.Core.Path.{_≡_, refl, sym, ap, ap₂, subst, _∙_}
 use mathlib.Core.List.{List, [], _∷_, _++_}
 use native.Mathlib.Omega.{arith}
 use lib.ListN.{length, getD, take}
-use lib.Seq.{getD-take}
+use lib.Seq.{sets, length-sets, sets-eq, getD-take, take-at}
 use Rattle.sets.specs.Sets.{has, size}
 use Rattle.sets.proofs.Places.{count-same}
 use Rattle.sets.proofs.Parts.{size-count}
 use Rattle.records.specs.Limits.{mostJobs}
 use Rattle.records.specs.Refusals.{Answer, refused, given, number, handed, Accepts}
-use Rattle.records.specs.Jobs.{blockTests, jobList}
+use Rattle.records.specs.Jobs.{blockTests, jobCount, jobList}
 use Rattle.records.specs.Ranges.{rangeTests}
 use Rattle.records.specs.Calls.{asked, callTests, questionTests, question, readCall}
 use Rattle.records.specs.declared.job.Job.{Job}
@@ -30,8 +30,9 @@ use Rattle.assignment.specs.Guarantee.{Guarantee}
 use Rattle.assignment.proofs.Planned.{placed-less}
 use Rattle.planner.specs.declared.table.TablePlan.{TablePlan}
 use Rattle.planner.specs.Plans.{planIn, planned, TablePromise}
+use Rattle.planner.proofs.Holding.{plan-held}
 use Rattle.text.specs.Lines.{rowsTo}
-use Rattle.text.specs.Keys.{jobLine, lastLine, keyText, refusedText, keyOr, keyOf, tableText}
+use Rattle.text.specs.Keys.{jobLine, lastLine, keyText, refusedText, keyOr, keyOf, KeyPromise, tableText}
 
 rows-same : (row row′ : ℕ → List ℕ) (n : ℕ) → ((k : ℕ) → k < n → row k ≡ row′ k) → rowsTo row n ≡ rowsTo row′ n
 rows-same row row′ zero h = refl
@@ -102,9 +103,34 @@ module _ (jobs : List ℕ) (low high : ℕ) (call : Call) (asks : asked call ≡
       unfolding keyOf
       key-text =
           let sized : length list ≡ m = ap length (known .list) ∙ jobs-listed jobs ∙ sym (known .count) ∙ sym all in
-          made list (call .range .low) (call .range .high) own (promised .guarantee ok) (placed-less list (omega (arith, sized, key-few)) (call .range .low) (call .range .high)) m sized r (ap (λ (x : ℕ × Plan). x .1) is)
+          made list (call .range .low) (call .range .high) own (promised .guarantee own told) (placed-less list (omega (arith, sized, key-few)) (call .range .low) (call .range .high)) m sized r (ap (λ (x : ℕ × Plan). x .1) is)
           ∙ ap₂ (λ (l : List Job) (x : Range). keyText (length l) (plan l (x .low) (x .high))) (known .list) (known .range)
           ∙ sym (ap (λ (x : Answer (Unit {0}) × Unit {0}). keyOr (x .0) (keyText (length (jobList jobs)) (plan (jobList jobs) low high))) (accepts tt tt tt (callTests jobs low high) called))
         where
           called : Accepts (callTests jobs low high)
           called = accepts-both (blockTests jobs) (rangeTests low high) (known .block) (known .allowed)
+
+-- ---- the promise
+
+-- Of a text that fills a buffer from its start.
+pub key-promise : (jobs : List ℕ) (low high : ℕ) (old new : List ℕ) (r : ℕ) → (r ≤ length new) × (r ≡ length (keyOf jobs low high)) × (new ≡ sets old 0 (keyOf jobs low high))
+    → (r ≤ length new) × (new ≡ sets old 0 (keyOf jobs low high)) × KeyPromise jobs low high (take r new)
+unfolding keyOf
+key-promise jobs low high old new r (fits, long, bytes) = (
+  fits,
+  bytes,
+  record {
+    is = held;
+    guarantee = λ ok. (plan (jobList jobs) low high, held ∙ planned-text ok, plan-held jobs low high ok);
+  },
+)
+  where
+    held : take r new ≡ keyOf jobs low high
+    held =
+        let room : 0 + length (keyOf jobs low high) ≤ length old = omega (arith, ap length bytes ∙ length-sets old 0 (keyOf jobs low high)) in
+        ap (take r) (bytes ∙ sets-eq (keyOf jobs low high) old 0 room) ∙ take-at (keyOf jobs low high) _ r (sym long)
+
+    planned-text : Accepts (callTests jobs low high) → keyOf jobs low high ≡ keyText (jobCount jobs) (plan (jobList jobs) low high)
+    planned-text ok =
+        ap (λ (x : Answer (Unit {0}) × Unit {0}). keyOr (x .0) (keyText (length (jobList jobs)) (plan (jobList jobs) low high))) (accepts tt tt tt (callTests jobs low high) ok)
+        ∙ ap (λ (m : ℕ). keyText m (plan (jobList jobs) low high)) (jobs-listed jobs)

@@ -1,15 +1,17 @@
 -- The key program's text (01, "Worked exam lists", at its end). Assumes nothing.
 use Prim.Native.Nat.{ℕ}
+use mathlib.Core.Path.{_≡_}
 use mathlib.Core.List.{List, [], _∷_, _++_}
 use lib.ListN.{length, getD}
 use Rattle.sets.specs.Places.{count}
-use Rattle.records.specs.Refusals.{Answer, refused, given, answer}
-use Rattle.records.specs.Jobs.{jobList}
+use Rattle.records.specs.Refusals.{Answer, refused, given, answer, Accepts}
+use Rattle.records.specs.Jobs.{jobCount, jobList}
 use Rattle.records.specs.Calls.{callTests}
 use Rattle.configuration.specs.declared.setting.Setting.{Setting}
 use Rattle.configuration.specs.Settings.{settingAt}
 use Rattle.configuration.specs.Configuration.{isPlaced}
 use Rattle.assignment.specs.Plan.{Plan, plan}
+use Rattle.planner.specs.Plans.{PlanHeld}
 use Rattle.lists.specs.Decimals.{lineFeed, decimal}
 use Rattle.text.specs.Lines.{line, rowsTo}
 
@@ -36,6 +38,12 @@ keyOr (given v) text = text
 -- The text for a job block and a range, with their refusals.
 unfoldable pub keyOf : List ℕ → ℕ → ℕ → List ℕ
 keyOf jobs low high = keyOr (answer (callTests jobs low high) tt) (keyText (length (jobList jobs)) (plan (jobList jobs) low high))
+
+-- What key promises of the text that it writes: it is the key, and where the call is accepted it is that of a plan of which demand 3 is
+-- said (planner/specs/Plans): its configuration block is read and marked as the text tells.
+pub record KeyPromise (jobs : List ℕ) (low high : ℕ) (text : List ℕ) : Type 0 where
+  pub is : text ≡ keyOf jobs low high
+  pub guarantee : Accepts (callTests jobs low high) → (p : Plan) × (text ≡ keyText (jobCount jobs) p) × PlanHeld jobs low high p
 
 -- The key as it is made of a table of settings and one of bounds, m jobs of n being placed.
 unfoldable pub tableText : List Setting → List ℕ → ℕ → ℕ → List ℕ

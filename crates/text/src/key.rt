@@ -1,11 +1,11 @@
 // The key program's text: a line per job, and how many are placed.
 ghost use mathlib.Core.Path.{_≡_};
 ghost use Prim.Native.Nat.{_+_, _≤_, _<_};
-ghost use lib.ListN.{length};
+ghost use lib.ListN.{length, take};
 ghost use lib.Seq.{sets};
 ghost use Rattle.records.specs.Limits.{mostJobs};
 ghost use Rattle.text.specs.Lines.{line, rowsTo, Wrote};
-ghost use Rattle.text.specs.Keys.{jobLine, tableText, lastLine, refusedText, keyOf};
+ghost use Rattle.text.specs.Keys.{jobLine, tableText, lastLine, refusedText, keyOf, KeyPromise};
 use crate::buffer;
 use configuration::setting::Setting;
 use records::job::Job;
@@ -117,7 +117,7 @@ fn put_refused(output: &mut [u8], number: u8) -> usize
 // The text for a job block and a range, at the start of the output; it gives the text's length. It is made of the plan's tables: the
 // numbers stand there as they are printed, while the entry's outputs would have to be read again.
 pub fn key(jobs: &[u8], low: u8, high: u8, output: &mut [u8; SIZE]) -> usize
-    ensures { λ r. ⌜ (r ≤ length (now (output .exit))) × (r ≡ length (keyOf (now (jobs .entry)) low high)) × (now (output .exit) ≡ sets (now (output .entry)) 0 (keyOf (now (jobs .entry)) low high)) ⌝ }
+    ensures { λ r. ⌜ (r ≤ length (now (output .exit))) × (now (output .exit) ≡ sets (now (output .entry)) 0 (keyOf (now (jobs .entry)) low high)) × KeyPromise (now (jobs .entry)) low high (take r (now (output .exit))) ⌝ }
 {
     let call = records::call::read_call(jobs, low, high);
     let answer = call.answer;

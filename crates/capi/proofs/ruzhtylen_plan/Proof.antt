@@ -1,5 +1,4 @@
-use Rattle.capi.specs.Words.{planValue}
-use Rattle.capi.proofs.Worded.{worded}
+use Rattle.capi.proofs.Promising.{word-promise}
 use borrow.Author.Needs.{needs}
 use Rattle.capi.proofs.ruzhtylen_plan.Statement.{statement}
 use Rattle.capi.proofs.ruzhtylen_plan.Tie as tie
@@ -19,7 +18,7 @@ same-length-2 c = search needs
 returns : tie.Need-returns
 returns c =
     let call = c .before .before .before .before .before in
-    worded planValue (c .plan-word .ensures) (call .plan .ensures .is)
+    word-promise _ _ _ _ _ _ _ (call .plan .result) (call .plan .ensures) (c .plan-word .ensures)
 
 pub ruzhtylen-plan-spec : {M : Type 1} → statement M
 ruzhtylen-plan-spec =

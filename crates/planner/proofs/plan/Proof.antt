@@ -11,7 +11,7 @@ use Rattle.records.proofs.Outcomes.{past}
 use Rattle.records.proofs.Asking.{knows-question, call-knows, call-turned, call-on}
 use Rattle.assignment.specs.Plan.{Plan, plan}
 use Rattle.planner.specs.Plans.{outputTests, values, writtenBy, putPlan, planOutcome}
-use Rattle.planner.proofs.Promising.{call-guarantee}
+use Rattle.planner.proofs.Holding.{promise}
 use borrow.Author.Needs.{needs}
 use Rattle.planner.proofs.plan.Statement.{statement}
 use Rattle.planner.proofs.plan.Tie as tie
@@ -51,10 +51,8 @@ returns c =
     let r = c .before .before .before in
     let s = r .before .before .before .before in
     let a = s .args in
-    record {
-      is = call-turned (jobs s) (a .low) (a .high) [] _ (r .read-call .ensures) (room s) (values (own s)) (new s) (old s) _ _ (c .before .enum-told .given .1) (c .refusal-of .ensures);
-      guarantee = call-guarantee (jobs s) (a .low) (a .high) (length (old s .0)) (length (old s .1));
-    }
+    promise (jobs s) (a .low) (a .high) (old s .0) (old s .1) _
+    (call-turned (jobs s) (a .low) (a .high) [] _ (r .read-call .ensures) (room s) (values (own s)) (new s) (old s) _ _ (c .before .enum-told .given .1) (c .refusal-of .ensures))
 
 put-plan-requires : tie.Need-put-plan-requires
 put-plan-requires c κs = search needs
@@ -77,15 +75,12 @@ returns-2 c =
     let n = told .answer .given .0 .0 in
     let known = call-knows (jobs s) (a .low) (a .high) [] _ (r .read-call .ensures) n (told .answer .given .1) .1 in
     let made = plan (take n (call .table)) (call .range .low) (call .range .high) in
-    record {
-      is =
-          q .put-plan .ensures
-          ∙ past (questionTests n (call .table) (call .range)) (outputTests (take n (call .table)) (length (old s .0)) (length (old s .1))) (values made) (writtenBy made (old s .0) (old s .1)) (old s)
-          (knows-question (jobs s) (a .low) (a .high) call n known)
-          ∙ ap₂ (λ (l : List Job) (x : Range). let p = plan l (x .low) (x .high) in outcome (outputTests l (length (old s .0)) (length (old s .1))) (values p) (writtenBy p (old s .0) (old s .1)) (old s)) (known .list) (known .range)
-          ∙ sym (call-on (jobs s) (a .low) (a .high) [] _ (r .read-call .ensures) (room s) (values (own s)) (new s) (old s) n (told .answer .given .1));
-      guarantee = call-guarantee (jobs s) (a .low) (a .high) (length (old s .0)) (length (old s .1));
-    }
+    promise (jobs s) (a .low) (a .high) (old s .0) (old s .1) _
+    (q .put-plan .ensures
+    ∙ past (questionTests n (call .table) (call .range)) (outputTests (take n (call .table)) (length (old s .0)) (length (old s .1))) (values made) (writtenBy made (old s .0) (old s .1)) (old s)
+    (knows-question (jobs s) (a .low) (a .high) call n known)
+    ∙ ap₂ (λ (l : List Job) (x : Range). let p = plan l (x .low) (x .high) in outcome (outputTests l (length (old s .0)) (length (old s .1))) (values p) (writtenBy p (old s .0) (old s .1)) (old s)) (known .list) (known .range)
+    ∙ sym (call-on (jobs s) (a .low) (a .high) [] _ (r .read-call .ensures) (room s) (values (own s)) (new s) (old s) n (told .answer .given .1)))
 
 pub plan-spec : {M : Type 1} → statement M
 plan-spec =

@@ -9,7 +9,7 @@ use Rattle.records.proofs.Outcomes.{refuses-alike, gives-alike, judged-accepts}
 use Rattle.records.specs.Refusals.{verdict}
 use Rattle.assignment.specs.Plan.{Plan, plan}
 use Rattle.planner.specs.Plans.{planIn}
-use Rattle.planner.proofs.Promising.{question-guarantee, question-sound}
+use Rattle.planner.proofs.Promising.{question-sound, table-promise}
 use borrow.Author.Needs.{needs}
 use Rattle.planner.proofs.table.plan_table.Statement.{statement}
 use Rattle.planner.proofs.table.plan_table.Tie as tie
@@ -39,12 +39,9 @@ returns c =
     let j = c .before .before .before .before in
     let s = j .before in
     let a = s .args in
-    record {
-      is =
-          c .plan-refused .ensures
-          ∙ sym (ap (told s) (refuses-alike (questionTests (a .n) (a .jobs) (a .range)) tt tt tt (a .n, own s) tt tt _ (sym (j .judge-question .ensures) ∙ ap verdict (c .before .before .judged .given .1))));
-      guarantee = question-guarantee (a .jobs) (a .n) (a .range) (eight s);
-    }
+    table-promise (a .jobs) (a .n) (a .range) (eight s) _
+    (c .plan-refused .ensures
+    ∙ sym (ap (told s) (refuses-alike (questionTests (a .n) (a .jobs) (a .range)) tt tt tt (a .n, own s) tt tt _ (sym (j .judge-question .ensures) ∙ ap verdict (c .before .before .judged .given .1)))))
 
 enum-told : tie.Need-enum-told
 enum-told c = search needs
@@ -68,13 +65,10 @@ returns-2 c =
     let s = j .before in
     let a = s .args in
     let r = c .plan-jobs .result in
-    record {
-      is =
-          ap (λ (x : Counted). handed x (λ k. (k, planIn k r))) (c .plan-jobs .ensures .0)
-          ∙ ap (λ (x : Plan). given (a .n, x)) (c .plan-jobs .ensures .1)
-          ∙ sym (ap (told s) (gives-alike (questionTests (a .n) (a .jobs) (a .range)) tt tt tt (a .n, own s) tt tt tt (sym (j .judge-question .ensures) ∙ ap verdict (t .enum-told .given .1))));
-      guarantee = question-guarantee (a .jobs) (a .n) (a .range) (eight s);
-    }
+    table-promise (a .jobs) (a .n) (a .range) (eight s) _
+    (ap (λ (x : Counted). handed x (λ k. (k, planIn k r))) (c .plan-jobs .ensures .0)
+    ∙ ap (λ (x : Plan). given (a .n, x)) (c .plan-jobs .ensures .1)
+    ∙ sym (ap (told s) (gives-alike (questionTests (a .n) (a .jobs) (a .range)) tt tt tt (a .n, own s) tt tt tt (sym (j .judge-question .ensures) ∙ ap verdict (t .enum-told .given .1)))))
 
 pub plan-table-spec : {M : Type 1} → statement M
 plan-table-spec =

@@ -3,7 +3,7 @@ use mathlib.Core.Path.{ap, _∙_}
 use Rattle.records.specs.Refusals.{number, refusalOf}
 use Rattle.text.specs.Keys.{refusedText, tableText}
 use Rattle.text.proofs.Writing.{whole, retold}
-use Rattle.text.proofs.KeyText.{key-refused, key-planned, key-few, key-text}
+use Rattle.text.proofs.KeyText.{key-refused, key-planned, key-few, key-text, key-promise}
 use borrow.Author.Needs.{needs}
 use Rattle.text.proofs.key.key.Statement.{statement}
 use Rattle.text.proofs.key.key.Tie as tie
@@ -34,7 +34,8 @@ returns c =
     let a = call .before .before .args in
     let told = t .enum-told .given .1 in
     let said = c .before .number .ensures ∙ ap number (r .refusal-of .ensures ∙ ap refusalOf told) in
-    whole (retold (c .put-refused .ensures) (ap refusedText said ∙ key-refused (a .jobs .now) (a .low) (a .high) _ (call .read-call .ensures) _ told)) (search needs)
+    key-promise (a .jobs .now) (a .low) (a .high) _ _ _
+    (whole (retold (c .put-refused .ensures) (ap refusedText said ∙ key-refused (a .jobs .now) (a .low) (a .high) _ (call .read-call .ensures) _ told)) (search needs))
 
 plan-table-requires : tie.Need-plan-table-requires
 plan-table-requires c κs = search needs
@@ -72,7 +73,8 @@ returns-2 c =
     let a = call .before .before .args in
     let r = p .plan-table .result in
     let text = key-text (a .jobs .now) (a .low) (a .high) _ (call .read-call .ensures) _ (told .answer .given .1) _ (p .plan-table .ensures) _ (made .planned .given .1) in
-    whole (retold (c .put-key .ensures) (ap (λ (m : ℕ). tableText (r .settings) (r .bounds) m (made .planned .given .0 .0)) (c .before .size .ensures) ∙ text)) (put-key-requires (c .before) (c .put-key .lifetimes) .1)
+    key-promise (a .jobs .now) (a .low) (a .high) _ _ _
+    (whole (retold (c .put-key .ensures) (ap (λ (m : ℕ). tableText (r .settings) (r .bounds) m (made .planned .given .0 .0)) (c .before .size .ensures) ∙ text)) (put-key-requires (c .before) (c .put-key .lifetimes) .1))
 
 returns-3 : tie.Need-returns-3
 returns-3 c =

@@ -1,0 +1,30 @@
+-- The promise of plan, of the word that stands for its answer. Assumes nothing.
+use Prim.Native.Nat.{ℕ, _+_, _*_, _/_, _%_, _<_}
+use mathlib.Core.Path.{_≡_, refl, sym, ap, ap₂, subst, _∙_}
+use mathlib.Core.List.{List}
+use native.Mathlib.Omega.{arith}
+use Rattle.records.specs.Refusals.{number}
+use Rattle.records.proofs.Outcomes.{number-byte}
+use Rattle.planner.specs.declared.PlanAnswer.{PlanAnswer}
+use Rattle.planner.specs.declared.PlanAnswer.the-variants.{Planned, Refused}
+use Rattle.planner.specs.Plans.{planAnswer, answered, HeldIn, Promise}
+use Rattle.planner.proofs.Holding.{told-byte}
+use Rattle.capi.specs.Words.{word, planValue}
+use Rattle.capi.specs.Promises.{WordPromise}
+use Rattle.capi.proofs.Worded.{worded}
+
+module _ (jobs : List ℕ) (low high : ℕ) (configuration bounds : List ℕ) (after : List ℕ × List ℕ) (w : ℕ) where
+  -- The bytes of the word are the two values.
+  held : (a : PlanAnswer) → Promise jobs low high configuration bounds (answered a (after .0) (after .1)) → w ≡ word planValue (planAnswer a)
+      → w % 256 ≡ 0 → HeldIn jobs low high (w / 256 % 256, w / 65536) after
+  held (Planned placed considered) promised e z =
+      let small : placed < 256 = told-byte jobs low high configuration bounds _ (promised .is) (placed, considered) refl in
+      let upper : w / 256 ≡ placed + 256 * considered = omega arith in
+      let first : w / 256 % 256 ≡ placed = ap (λ (x : ℕ). x % 256) upper ∙ omega arith in
+      let second : w / 65536 ≡ considered = omega arith in
+      subst (λ (told : ℕ × ℕ). HeldIn jobs low high told after) (sym (ap₂ (λ (x y : ℕ). (x, y)) first second)) (promised .guarantee (placed, considered) refl)
+  held (Refused refusal) promised e z = absurd (omega (arith, number-byte refusal))
+
+  pub word-promise : (a : PlanAnswer) → Promise jobs low high configuration bounds (answered a (after .0) (after .1)) → w ≡ word planValue (planAnswer a)
+      → WordPromise jobs low high configuration bounds w after
+  word-promise a promised e = record { is = worded planValue e (promised .is); guarantee = held a promised e }
