@@ -2,7 +2,10 @@
    A slice is a pointer and its length. Blocks are those of the scope document, two-byte numbers with the high byte first; the second
    byte of a job record is the job's delay.
    Any input gets an answer. Byte 0 of an answer, its lowest, is the refusal's number, 0 for none; a refusal changes nothing lent.
-   Bytes of an output past the need stay. */
+   Bytes of an output past the need stay. With length 0 a pointer may be anything, null too.
+   The proofs take it that a pointer has as many bytes as its length says, and that an output overlaps neither an input nor the other
+   output; for a call that does otherwise nothing is promised.
+   Calls keep nothing between them, so any number of them may run at once in several threads, each with outputs of its own. */
 #ifndef RUZHTYLEN_H
 #define RUZHTYLEN_H
 

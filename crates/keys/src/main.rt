@@ -3,8 +3,8 @@
 use libc::STDIN_FILENO;
 use libc::STDOUT_FILENO;
 
-// The most blocks that are read.
-const MOST: u32 = 64;
+// A loop has to end: after more blocks than anyone can write.
+const MOST: u64 = 0xFFFF_FFFF_FFFF_FFFF;
 
 // Prints the key of the block that comes next, and that fills `block`.
 fn print_key(low: u8, high: u8, block: &mut [u8]) {

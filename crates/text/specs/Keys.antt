@@ -1,11 +1,12 @@
 -- The key program's text (01, "Worked exam lists", at its end). Assumes nothing.
-use Prim.Native.Nat.{ℕ}
+use Prim.Native.Nat.{ℕ, _+_, _*_}
 use mathlib.Core.Path.{_≡_}
 use mathlib.Core.List.{List, [], _∷_, _++_}
 use lib.ListN.{length, getD}
 use Rattle.sets.specs.Places.{count}
+use Rattle.records.specs.Limits.{mostJobs}
 use Rattle.records.specs.Refusals.{Answer, refused, given, answer, Accepts}
-use Rattle.records.specs.Jobs.{jobCount, jobList}
+use Rattle.records.specs.Jobs.{jobSize, jobCount, jobList}
 use Rattle.records.specs.Calls.{callTests}
 use Rattle.configuration.specs.declared.setting.Setting.{Setting}
 use Rattle.configuration.specs.Settings.{settingAt}
@@ -44,6 +45,18 @@ keyOf jobs low high = keyOr (answer (callTests jobs low high) tt) (keyText (leng
 pub record KeyPromise (jobs : List ℕ) (low high : ℕ) (text : List ℕ) : Type 0 where
   pub is : text ≡ keyOf jobs low high
   pub guarantee : Accepts (callTests jobs low high) → (p : Plan) × (text ≡ keyText (jobCount jobs) p) × PlanHeld jobs low high p
+
+-- ---- the key program
+
+-- "The key program reads a job block from standard input, range 1 to 4."
+abbrev pub programKey : List ℕ → List ℕ
+programKey input = keyOf input 1 4
+
+-- How much of its input it reads: one byte more than the longest job block, so that a longer one shows (`read-enough`, proofs/ProgramInput).
+abbrev pub programReads : ℕ
+programReads = jobSize * mostJobs + 1
+
+-- ---- the key by parts
 
 -- The key as it is made of a table of settings and one of bounds, m jobs of n being placed.
 unfoldable pub tableText : List Setting → List ℕ → ℕ → ℕ → List ℕ

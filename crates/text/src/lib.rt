@@ -2,3 +2,4 @@
 mod buffer;
 pub mod fault;
 pub mod key;
+pub mod program;

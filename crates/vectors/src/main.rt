@@ -8,8 +8,8 @@ mod calls;
 mod reply;
 mod tables;
 
-// The most frames that are answered.
-const MOST: u32 = 1_000_000;
+// A loop has to end: after more frames than anyone can write.
+const MOST: u64 = 0xFFFF_FFFF_FFFF_FFFF;
 
 // An input frame's length, its entry and how many numbers it has; the numbers as bytes, and those that are used.
 const HEAD: usize = 4;

@@ -4,14 +4,17 @@ use borrow.Author.Needs.{needs}
 use Rattle.key.proofs.main.Statement.{statement}
 use Rattle.key.proofs.main.Tie as tie
 
+input-requires : tie.Need-input-requires
+input-requires c κs = search needs
+
 slice-aggregate-read-full : tie.Need-slice-aggregate-read-full
 slice-aggregate-read-full c = search needs
 
 read-full-requires : tie.Need-read-full-requires
 read-full-requires c κs = search needs
 
-array-share-prefix-block : tie.Need-array-share-prefix-block
-array-share-prefix-block c = search needs
+array-share-prefix-input : tie.Need-array-share-prefix-input
+array-share-prefix-input c = search needs
 
 slice-aggregate-key : tie.Need-slice-aggregate-key
 slice-aggregate-key c = search needs
@@ -35,9 +38,10 @@ pub main-spec : {M : Type 1} → statement M
 main-spec =
     tie.close
     (tie.spec
+    input-requires
     slice-aggregate-read-full
     read-full-requires
-    array-share-prefix-block
+    array-share-prefix-input
     slice-aggregate-key
     key-requires
     array-share-prefix-output

@@ -1,10 +1,9 @@
-use Prim.Native.Nat.{_≤_}
 use borrow.Author.Needs.{needs}
 use Rattle.keys.proofs.main.Statement.{statement}
 use Rattle.keys.proofs.main.Tie as tie
 
 abbrev Inv-loop : tie.InvT-loop
-Inv-loop left₀ left = left ≤ 64
+Inv-loop left₀ left = Unit {0}
 
 abbrev μ-loop : tie.MeasureT-loop
 μ-loop left₀ left = left

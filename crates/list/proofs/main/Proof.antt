@@ -18,11 +18,8 @@ slice-aggregate-read-full c = search needs
 read-full-requires : tie.Need-read-full-requires
 read-full-requires c κs = search needs
 
-slice-aggregate-write-all : tie.Need-slice-aggregate-write-all
-slice-aggregate-write-all c = search needs
-
-write-all-requires : tie.Need-write-all-requires
-write-all-requires c κs = search needs
+print-too-long-requires : tie.Need-print-too-long-requires
+print-too-long-requires c κs = search needs
 
 returns : tie.Need-returns
 returns c = search needs
@@ -67,8 +64,7 @@ main-spec =
     buffer-requires
     slice-aggregate-read-full
     read-full-requires
-    slice-aggregate-write-all
-    write-all-requires
+    print-too-long-requires
     returns
     array-share-prefix-buffer
     slice-aggregate-read-list

@@ -1,4 +1,3 @@
-use Prim.Native.Nat.{_≤_}
 use mathlib.Core.Path.{_≡_}
 use lib.ListN.{length}
 use borrow.Author.Needs.{needs}
@@ -6,7 +5,7 @@ use Rattle.vectors.proofs.main.Statement.{statement}
 use Rattle.vectors.proofs.main.Tie as tie
 
 abbrev Inv-loop : tie.InvT-loop
-Inv-loop a₀ b₀ c₀ left₀ a b c left = (left ≤ 1000000) × (length a ≡ 65536) × (length b ≡ 65536) × (length c ≡ 65536)
+Inv-loop a₀ b₀ c₀ left₀ a b c left = (length a ≡ 65536) × (length b ≡ 65536) × (length c ≡ 65536)
 
 abbrev μ-loop : tie.MeasureT-loop
 μ-loop a₀ b₀ c₀ left₀ a b c left = left
