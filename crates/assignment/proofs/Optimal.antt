@@ -13,10 +13,10 @@ use Rattle.sets.specs.Sets.{Set, Sub, both, but}
 use Rattle.assignment.specs.Takeable.{Takeable}
 
 -- The jobs of a level, and those above it.
-abbrev pub layerAt : (ℕ → ℕ) → ℕ → Set
+abbrev layerAt : (ℕ → ℕ) → ℕ → Set
 layerAt level v i = eqb (level i) v
 
-abbrev pub aboveAt : (ℕ → ℕ) → ℕ → Set
+abbrev aboveAt : (ℕ → ℕ) → ℕ → Set
 aboveAt level v i = ltb (level i) v
 
 -- A play takes set after set, in whatever order.

@@ -25,7 +25,7 @@ use Rattle.marker.proofs.Configured.{quantum-at}
 use Rattle.assignment.specs.Plan.{Stage, settingIn, settingLeft, put, place, placeBy}
 
 -- The marker's bound of a job that is placed.
-abbrev pub placedBound : List Job → List Setting → ℕ → ℕ
+abbrev placedBound : List Job → List Setting → ℕ → ℕ
 placedBound jobs settings k = bound jobs (quantaOf settings) (layerOf settings (levelAt settings k)) (aboveOf settings (levelAt settings k)) k
 
 -- What holds when the levels past v are settled.

@@ -42,7 +42,7 @@ use Rattle.assignment.proofs.Plays.{AllSets, Taken, NoneTaken, plan-sto
 use Rattle.assignment.proofs.Placed.{Good, placed-good}
 
 -- A layer of a configuration has its quanta in range, or is one job.
-pub layers-permitted : (jobs : List Job) (low high : ℕ) (settings : List Setting) → Configuration jobs low high settings
+layers-permitted : (jobs : List Job) (low high : ℕ) (settings : List Setting) → Configuration jobs low high settings
     → (level : ℕ) → 0 < level → Permitted (length jobs) low high (quantaOf settings) (layerOf settings level)
 layers-permitted jobs low high settings C level p k l e = go (shapes jobs low high settings C .shape k l)
   where
@@ -65,7 +65,7 @@ pub start-less : (jobs : List Job) → length jobs ≤ places → start jobs .le
 unfolding start
 start-less jobs few = omega (arith, first-all (length jobs) few, pow-pos (length jobs))
 
-pub start-size : (jobs : List Job) → length jobs ≤ places → size (start jobs .left) ≤ length jobs
+start-size : (jobs : List Job) → length jobs ≤ places → size (start jobs .left) ≤ length jobs
 unfolding start
 start-size jobs few = omega (arith, ap size (first-all (length jobs) few), size-full (length jobs))
 
@@ -240,7 +240,7 @@ module _
                 let f = fails e (w .0) (w .1) in
                 absurd (omega (arith, f .3, ltb-true 0 (boundAt jobs (w .0) (f .0)) (every-at (isServed jobs (w .0)) n served (f .0) (f .1))))
 
-        pub guaranteed : BySize places sequence → GuaranteeOver jobs Allowed Permit answer
+        guaranteed : BySize places sequence → GuaranteeOver jobs Allowed Permit answer
         guaranteed B = record {
           allowed = allows end-shapes;
           bounds = ext-getD 0 (end .bounds) (boundsOf jobs (end .settings)) (end-good .bounds ∙ sym (list-length (boundAt jobs (end .settings)) n))
@@ -257,7 +257,7 @@ module _
 
 -- ---- the planner's rule of 01
 
-pub order-all : AllSets order
+order-all : AllSets order
 unfolding order
 order-all = record { only = order-out places; each = order-in places }
 

@@ -31,7 +31,7 @@ module _ (low high : ℕ) (layer : Set) (n : ℕ) where
   abbrev ranges : List (ℕ × ℕ)
   ranges = quantumRanges low high layer n
 
-  pub ranges-length : length ranges ≡ n
+  ranges-length : length ranges ≡ n
   ranges-length = list-length (quantaOver low high layer) n
 
   at : (i : ℕ) → i < n → getD ranges i (0, 0) ≡ quantaOver low high layer i
@@ -43,9 +43,6 @@ module _ (low high : ℕ) (layer : Set) (n : ℕ) where
 
     pub in-range : layer i ≡ true → (low ≤ getD w i 0) × (getD w i 0 ≤ high)
     in-range e = let v = rw (at i l, e) at value in (v .0, omega (arith, v .0, v .1))
-
-    pub out-zero : layer i ≡ false → getD w i 0 ≡ 0
-    out-zero e = let v = rw (at i l, e) at value in omega (arith, v .1)
 
   pub ranged-fits : (v : List ℕ) → length v ≡ n → ((i : ℕ) → i < n → layer i ≡ true → (low ≤ getD v i 0) × (getD v i 0 ≤ high))
       → ((i : ℕ) → i < n → layer i ≡ false → getD v i 0 ≡ 0) → Fits ranges v
@@ -76,7 +73,7 @@ module _ (jobs : List Job) (layer above : Set) (quanta : List ℕ) where
 module _ (jobs : List Job) (costs : Costs jobs) (low high : ℕ) (lp : 0 < low) (layer above : Set) where
   -- The job k is not served with a quantum beside others, none of which is above that of a list that serves: that list has a greater
   -- quantum there.
-  pub exceeds : (q : List ℕ) (k : ℕ) → k < length jobs → layer k ≡ true → (0 < bound jobs q layer above k → ⊥)
+  exceeds : (q : List ℕ) (k : ℕ) → k < length jobs → layer k ≡ true → (0 < bound jobs q layer above k → ⊥)
       → (w : List ℕ) → Fits (quantumRanges low high layer (length jobs)) w → serves jobs layer above w ≡ true
       → ((i : ℕ) → i < length jobs → layer i ≡ true → (i ≡ k → ⊥) → getD q i 0 ≤ getD w i 0) → getD q k 0 < getD w k 0
   exceeds q k l e un w f served others = elim (decLe (getD w k 0) (getD q k 0)) [

@@ -31,7 +31,7 @@ module _ (jobs : List Job) (costs : Costs jobs) (low high : ℕ) (lp : 0 < low) 
   -- ---- one job's quantum is raised
 
   module _ (k : ℕ) (kn : k < n) (kl : layer k ≡ true) (q : List ℕ) (S : Stands q) (unserved : 0 < bound jobs q layer above k → ⊥) where
-    pub raised : getD q k 0 < high → Stands (set q k (getD q k 0 + 1))
+    raised : getD q k 0 < high → Stands (set q k (getD q k 0 + 1))
     raised h = rw add-one (record {
       long = omega (arith, length-set q k (suc (getD q k 0)), S .long);
       inRange = λ i l e. elim (ℕ-discrete i k) [

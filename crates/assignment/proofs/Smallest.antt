@@ -1,6 +1,6 @@
 -- The search through lists in order finds the list that is least at each place, where there is such a one. Assumes nothing.
 use Prim.Native.Nat.{ℕ, zero, suc, _+_, _≤_, _<_}
-use mathlib.Core.Path.{_≡_, refl, sym, ap, _∙_}
+use mathlib.Core.Path.{_≡_, refl, sym, _∙_}
 use mathlib.Core.Bool.{Bool, true, false, cond}
 use mathlib.Core.List.{List, [], _∷_}
 use mathlib.Core.Option.{Option, none, some, Option·none-ne-some, Option·some-injective}
@@ -102,12 +102,6 @@ smallest-all (values ∷ ranges) test e (x ∷ v) f h =
     smallest-all ranges (λ w. test (x ∷ w)) (first-none (λ y. smallest ranges (λ w. test (y ∷ w))) (values .0) (values .1) e x (f .0) (f .1)) v (f .2) h
 
 -- ---- the values of a list, place by place
-
-pub fits-length : (ranges : List (ℕ × ℕ)) (v : List ℕ) → Fits ranges v → length v ≡ length ranges
-fits-length [] [] f = refl
-fits-length [] (x ∷ v) f = absurd f
-fits-length (values ∷ ranges) [] f = absurd f
-fits-length (values ∷ ranges) (x ∷ v) f = ap suc (fits-length ranges v (f .2))
 
 pub fits-at : (ranges : List (ℕ × ℕ)) (v : List ℕ) → Fits ranges v → (i : ℕ) → i < length ranges
     → (getD ranges i (0, 0) .0 ≤ getD v i 0) × (getD v i 0 < getD ranges i (0, 0) .0 + getD ranges i (0, 0) .1)

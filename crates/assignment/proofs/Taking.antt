@@ -36,7 +36,7 @@ pub record Finds (jobs : List Job) (low high : ℕ) (Permit : List ℕ → Set �
       → (k : ℕ) → k < length jobs → has s k ≡ true → 0 < bound jobs q (has s) (has (rest r s)) k
   pub fails : (r s : ℕ) → Of (length jobs) r s → find r s ≡ none → TakeableBy jobs Permit (has r) (has s) → ⊥
 
-pub permit-drop : (n low high : ℕ) (q : List ℕ) (s s′ : Set) → Sub n s′ s → Permitted n low high q s → Permitted n low high q s′
+permit-drop : (n low high : ℕ) (q : List ℕ) (s s′ : Set) → Sub n s′ s → Permitted n low high q s → Permitted n low high q s′
 permit-drop n low high q s s′ h p k l e = ⊎-elim (λ a. inl (λ i il x. a i il (h i il x))) inr (p k l (h k l e))
 
 module _ (jobs : List Job) (costs : Costs jobs) where
@@ -96,7 +96,7 @@ module _ (jobs : List Job) (costs : Costs jobs) where
         (others-mono (length jobs) k q q′ (has s) (has s) (λ i il x. x) (λ i il x d.
         ⊎-elim (λ a. absurd (d (sym (a k l e)))) (λ v. omega (arith, kept i il x v)) (t .permit i il x)))
 
-    pub cannot-take : quantaFor jobs low high r s ≡ none → ⊥
+    cannot-take : quantaFor jobs low high r s ≡ none → ⊥
     unfolding quantaBy
     cannot-take e =
         smallest-all (quantumRanges low high (has s) (length jobs)) (serves jobs (has s) (has (rest r s))) e q′ fits

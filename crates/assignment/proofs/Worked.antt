@@ -34,10 +34,10 @@ pub answered : Question → Answer
 answered (plans jobs low high) = let p = plan jobs low high in planned (p .placed) (p .considered) (p .settings) (p .bounds)
 answered (marks jobs settings) = marked (boundsOf jobs settings) (passes jobs settings)
 
-pub k2 : List Job
+k2 : List Job
 k2 = job 1 6 8 8 ∷ job 2 5 22 22 ∷ []
 
-pub k7 : List Job
+k7 : List Job
 k7 = job 1 6 8 8 ∷ job 2 5 23 23 ∷ []
 
 pub cases : List (Question × Answer)

@@ -14,7 +14,7 @@ pub data Case : Type 0 where
 pub job : ℕ → ℕ → ℕ → ℕ → Job
 job id cost period deadline = record { id = id; delay = 0; cost = cost; period = period; deadline = deadline }
 
-pub late : ℕ → ℕ → ℕ → ℕ → ℕ → Job
+late : ℕ → ℕ → ℕ → ℕ → ℕ → Job
 late id cost period deadline delay = record { id = id; delay = delay; cost = cost; period = period; deadline = deadline }
 
 pub answered : List Case → List (Reading ℕ × List Job)

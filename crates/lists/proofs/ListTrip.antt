@@ -39,7 +39,7 @@ digit-is : (d : ℕ) → d < 10 → isDigit (digit d) ≡ true
 digit-is d h = rw (le-leb (digit 0) (digit d) (omega arith)) (le-leb (digit d) (digit 9) (omega arith))
 
 -- The word stands for n.
-pub record Spells (n : ℕ) (word : List ℕ) : Type 0 where
+record Spells (n : ℕ) (word : List ℕ) : Type 0 where
   pub digits : allDigits word ≡ true
   pub value : valueFrom 0 word ≡ n
   pub some : 0 < length word
@@ -66,10 +66,10 @@ spelled-by (suc k) n h = elim (decLe 10 n) [
     })
 
 -- What the writer of decimal numbers writes is read back.
-pub decimal-spells : (n : ℕ) → Spells n (decimal n)
+decimal-spells : (n : ℕ) → Spells n (decimal n)
 decimal-spells n = spelled-by (suc n) n (omega arith)
 
-pub number-back : (limit n : ℕ) → n ≤ limit → numberOf limit (decimal n) ≡ Number n
+number-back : (limit n : ℕ) → n ≤ limit → numberOf limit (decimal n) ≡ Number n
 unfolding numberOf
 number-back limit n h = let s = decimal-spells n in rw (s .digits, s .value, le-leb n limit h)
 

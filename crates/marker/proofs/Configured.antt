@@ -56,14 +56,14 @@ module _ (jobs : List Job) (a b : List Setting) (same : (i : ℕ) → i < length
   quantum-same : (i : ℕ) → i < length jobs → getD (quantaOf a) i 0 ≡ getD (quantaOf b) i 0
   quantum-same i l = quantum-at a i ∙ ap (λ (s : Setting). s .quantum) (same i l) ∙ sym (quantum-at b i)
 
-  pub bound-settings : (k : ℕ) → k < length jobs → boundAt jobs a k ≡ boundAt jobs b k
+  bound-settings : (k : ℕ) → k < length jobs → boundAt jobs a k ≡ boundAt jobs b k
   unfolding boundIn
   bound-settings k l =
       ap₂ (λ (v x : ℕ). elim (eqb v 0) [ true ↦ 0 | false ↦ x ]) (level-same k l)
       (bound-same jobs k (quantaOf a) (quantaOf b) (layerOf a (levelAt a k)) (layerOf b (levelAt b k)) (aboveOf a (levelAt a k)) (aboveOf b (levelAt b k))
       (quantum-same k l) (λ i il e. quantum-same i il) (λ i il. ap₂ eqb (level-same i il) (level-same k l)) (λ i il. ap₂ ltb (level-same i il) (level-same k l)))
 
-  pub bounds-settings : boundsOf jobs a ≡ boundsOf jobs b
+  bounds-settings : boundsOf jobs a ≡ boundsOf jobs b
   bounds-settings = list-same (boundAt jobs a) (boundAt jobs b) (length jobs) bound-settings
 
 -- Tables of k entries, and a count that is cut to k.

@@ -32,29 +32,29 @@ pub answered : Case → Answers
 answered c = record { marks = markOutcome (c .jobs) 1 4 (c .block) (c .output); bounds = boundsOutcome (c .jobs) 1 4 (c .block) (c .output) }
 
 -- The case in which both entries fill an output of 5 bytes for two jobs, and the last byte stays.
-pub filled : List ℕ → List ℕ → Bool → ℕ → ℕ → Case
+filled : List ℕ → List ℕ → Bool → ℕ → ℕ → Case
 filled jobs block passed first second =
     let bytes = wordBytes first ++ (wordBytes second ++ (7 ∷ [])) in
     record { jobs = jobs; block = block; output = 9 ∷ 9 ∷ 9 ∷ 9 ∷ 7 ∷ []; answers = record { marks = (given passed, bytes); bounds = (given tt, bytes) } }
 
 -- The case in which an entry refuses, or leaves the bounds of a configuration that is not full.
-pub refuses : List ℕ → List ℕ → List ℕ → ℕ → Answer (Unit {0}) × List ℕ → Case
+refuses : List ℕ → List ℕ → List ℕ → ℕ → Answer (Unit {0}) × List ℕ → Case
 refuses jobs block output number b = record { jobs = jobs; block = block; output = output; answers = record { marks = (refused number, output); bounds = b } }
 
 pub k2 : List ℕ
 k2 = row 1 0 6 8 8 ++ row 2 0 5 22 22
 
-pub k7 : List ℕ
+k7 : List ℕ
 k7 = row 1 0 6 8 8 ++ row 2 0 5 23 23
 
 -- Both on one level, and each alone on its own.
 pub shared : ℕ → ℕ → List ℕ
 shared first second = 1 ∷ 2 ∷ 2 ∷ first ∷ 2 ∷ 2 ∷ 2 ∷ second ∷ []
 
-pub apart : ℕ → ℕ → List ℕ
+apart : ℕ → ℕ → List ℕ
 apart first second = 1 ∷ first ∷ 1 ∷ 0 ∷ 2 ∷ second ∷ 1 ∷ 0 ∷ []
 
-pub third : List ℕ
+third : List ℕ
 third = 1 ∷ 0 ∷ 0 ∷ 0 ∷ 2 ∷ 0 ∷ 0 ∷ 0 ∷ 3 ∷ 3 ∷ 1 ∷ 0 ∷ []
 
 pub cases : List Case

@@ -64,13 +64,13 @@ module _ (jobs : List ℕ) (low high : ℕ) (ok : Accepts (callTests jobs low hi
   settings-are : settingsOf jobs configuration ≡ p .settings
   settings-are = settings-read jobs low high (p .settings) ok (G .allowed)
 
-  pub settings-size : length configuration ≡ settingSize * n
+  settings-size : length configuration ≡ settingSize * n
   settings-size = length-flat settingBytes settingSize setting-width (p .settings) ∙ ap (λ (m : ℕ). settingSize * m) (settings-length list low high p G ∙ size)
 
   bounds-count : length (p .bounds) ≡ n
   bounds-count = bounds-length list low high p G ∙ size
 
-  pub bounds-size : length bounds ≡ boundSize * n
+  bounds-size : length bounds ≡ boundSize * n
   bounds-size = length-flat wordBytes boundSize word-width (p .bounds) ∙ ap (λ (m : ℕ). boundSize * m) bounds-count
 
   held-is : planHeld jobs (values p) configuration bounds ≡ p

@@ -24,7 +24,7 @@ use Rattle.planner.specs.Questions.{Sound}
 use Rattle.planner.specs.Plans.{TablePromise}
 
 -- Demand 3: of an accepted list, and of an accepted job block and range.
-pub accepted-guarantee : (jobs : List Job) → AcceptedJobs jobs → (low high : ℕ) → AcceptedRange low high → Guarantee jobs low high (plan jobs low high)
+accepted-guarantee : (jobs : List Job) → AcceptedJobs jobs → (low high : ℕ) → AcceptedRange low high → Guarantee jobs low high (plan jobs low high)
 accepted-guarantee jobs ok low high range =
     plan-guaranteed jobs (λ k l. cost-at jobs ok k l) (jobs-most jobs ok) low high (leb-true 1 low (range .0)) (leb-true low high (range .1 .0))
 

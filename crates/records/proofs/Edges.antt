@@ -22,7 +22,7 @@ pub due : Case → Answer ℕ
 due (block s a) = a
 due (range low high a) = a
 
-pub eight : List ℕ
+eight : List ℕ
 eight =
     row 1 0 1 9 9 ++ (row 2 0 1 9 9 ++ (row 3 0 1 9 9 ++ (row 4 0 1 9 9 ++ (row 5 0 1 9 9 ++ (row 6 0 1 9 9 ++ (row 7 0 1 9 9 ++ row 255 0 1 9 9))))))
 

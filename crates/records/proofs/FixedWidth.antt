@@ -4,11 +4,11 @@ use Prim.Native.Nat.{ℕ, zero, suc, _+_, _-_, _*_, _/_, _%_, min, _≤_, _<_}
 use mathlib.Core.Path.{_≡_, refl, sym, ap, ap₂, _∙_}
 use mathlib.Core.List.{List, [], _∷_, _++_, append-assoc, append-nil}
 use native.Mathlib.Numerals.{add-one}
-use native.Mathlib.Nat.{mul-suc, mul-zero, add-comm, zero-add}
+use native.Mathlib.Nat.{mul-suc, mul-zero, add-comm}
 use native.Mathlib.Decide.{decLe}
 use native.Mathlib.Omega.{arith}
-use lib.ListN.{length, getD, take, drop, set, replicate, length-append, length-take, length-drop, drop-of-length-le, List·getD-append, List·getD-eq-default, length-replicate}
-use lib.Seq.{ext-getD, drop-cons, drop-drop, set-at, append-snoc, take-all, take-at, drop-at, take-suc, take-add, length-take-le, getD-append-add}
+use lib.ListN.{length, getD, take, drop, set, replicate, length-append, length-take, length-drop, drop-of-length-le, List·getD-eq-default, length-replicate}
+use lib.Seq.{ext-getD, drop-cons, drop-drop, set-at, append-snoc, take-all, take-at, drop-at, take-suc, take-add, length-take-le}
 use borrow.Author.Tests.{lt-leb, le-leb, leb-true}
 use Rattle.sets.specs.Places.{listOf}
 use Rattle.sets.proofs.Places.{list-suc, list-length, list-at}
@@ -29,16 +29,6 @@ length-flat bytes w h [] = sym (mul-zero w)
 length-flat bytes w h (x ∷ xs) =
     let e : w * suc (length xs) ≡ w * length xs + w = mul-suc w (length xs) in
     length-append (bytes x) (flat bytes xs) ∙ omega (arith, length-flat bytes w h xs, h x)
-
--- Byte k of record i.
-pub flat-at : {A : Type 0} (bytes : A → List ℕ) (w : ℕ) → ((a : A) → length (bytes a) ≡ w) → (xs : List A) (z : A) (i k : ℕ) → i < length xs → k < w
-    → getD (flat bytes xs) (w * i + k) 0 ≡ getD (bytes (getD xs i z)) k 0
-unfolding flat
-flat-at bytes w h [] z i k l m = absurd (omega arith)
-flat-at bytes w h (x ∷ xs) z zero k l m = rw (mul-zero w, zero-add k) (List·getD-append (bytes x) (flat bytes xs) 0 k (omega (arith, h x)))
-flat-at bytes w h (x ∷ xs) z (suc i) k l m =
-    let e : w * suc i + k ≡ length (bytes x) + (w * i + k) = omega (arith, h x, mul-suc w i) in
-    rw e (getD-append-add (bytes x) (flat bytes xs) (w * i + k) 0) ∙ flat-at bytes w h xs z i k (omega arith) m
 
 pub length-chunks : {A : Type 0} (w : ℕ) (read : List ℕ → A) (n : ℕ) (s : List ℕ) → length (chunks w read n s) ≡ n
 unfolding chunks
@@ -209,7 +199,7 @@ flat-chunks w bytes read Q step (suc n) s q =
     rw (h .0, flat-chunks w bytes read Q step n (drop w s) (h .1), e) (sym (take-add w (w * n) s))
 
 -- n elements from place k on, each by its index.
-abbrev pub spelled : ℕ → ℕ → List ℕ → List ℕ
+abbrev spelled : ℕ → ℕ → List ℕ → List ℕ
 spelled k zero s = []
 spelled k (suc n) s = getD s k 0 ∷ spelled (suc k) n s
 

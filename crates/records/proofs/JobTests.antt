@@ -27,13 +27,13 @@ module _ (n : ℕ) (a b : List Job) (same : (i : ℕ) → i < n → jobAt a i �
   every-ok : (rule : JobRule) → every (jobOkAt rule a) n ≡ every (jobOkAt rule b) n
   every-ok rule = every-same (jobOkAt rule a) (jobOkAt rule b) n (λ i l. ap₂ (jobOk rule) (before-same i l) (same i l))
 
-  pub tests-same : jobTests n a ≡ jobTests n b
+  tests-same : jobTests n a ≡ jobTests n b
   tests-same = rw (every-ok Id, every-ok Order, every-ok Times)
 
 pub tests-table : (n : ℕ) (jobs : List Job) → jobTests n (jobTable jobs) ≡ jobTests n jobs
 tests-table n jobs = tests-same n (jobTable jobs) jobs (λ i l. table-at blankJob jobs (mostJobs - length jobs) i)
 
-pub tests-take : (n : ℕ) (jobs : List Job) → jobTests n (take n jobs) ≡ jobTests n jobs
+tests-take : (n : ℕ) (jobs : List Job) → jobTests n (take n jobs) ≡ jobTests n jobs
 tests-take n jobs = tests-same n (take n jobs) jobs (λ i l. getD-take n jobs i blankJob l)
 
 -- A table is accepted exactly if its first n jobs are an accepted list.

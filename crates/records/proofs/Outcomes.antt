@@ -16,7 +16,7 @@ use Rattle.records.specs.declared.refusal.Counted.the-variants.{Count, R
 -- ---- tests after tests: the first ones refuse, or the others decide
 
 module _ {A B C D : Type 0} (values : A) (new old : B) (values′ : C) (new′ old′ : D) (later : Tests) where
-  pub stops : (tests : Tests) (k : ℕ) → outcome tests values new old .0 ≡ refused k → outcome (tests ++ later) values′ new′ old′ ≡ (refused k, old′)
+  stops : (tests : Tests) (k : ℕ) → outcome tests values new old .0 ≡ refused k → outcome (tests ++ later) values′ new′ old′ ≡ (refused k, old′)
   stops [] k e = absurd (let z : _≡_ {A = ℕ} 0 1 = cc in omega arith)
   stops (t ∷ tests) k e = go (t .0) (stops tests k) e
     where
@@ -26,7 +26,7 @@ module _ {A B C D : Type 0} (values : A) (new old : B) (values′ : C) (new′ o
       go true ih e′ = ih e′
       go false ih e′ = let f : t .1 ≡ k = cc in rw f
 
-  pub goes-on : (tests : Tests) (a : A) → outcome tests values new old .0 ≡ given a → outcome (tests ++ later) values′ new′ old′ ≡ outcome later values′ new′ old′
+  goes-on : (tests : Tests) (a : A) → outcome tests values new old .0 ≡ given a → outcome (tests ++ later) values′ new′ old′ ≡ outcome later values′ new′ old′
   goes-on [] a e = refl
   goes-on (t ∷ tests) a e = go (t .0) (goes-on tests a) e
     where

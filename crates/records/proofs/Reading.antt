@@ -29,7 +29,7 @@ module _ (block : List ℕ) (ok : Accepts (blockTests block)) where
   pub count-most : jobCount block ≤ mostJobs
   count-most = let l : length block ≤ mostJobs * jobSize = leb-true _ _ (ok .1 .0) in omega arith
 
-  pub count-accepted : Accepts (countTests (jobCount block))
+  count-accepted : Accepts (countTests (jobCount block))
   count-accepted =
       let few : 1 ≤ length block = leb-true _ _ (ok .0) in
       let whole : length block % jobSize ≡ 0 = eqb-true _ _ (ok .1 .1 .0) in
@@ -49,7 +49,7 @@ module _ (jobs : List Job) (ok : AcceptedJobs jobs) where
   jobs-most = leb-true _ _ (ok .1 .0)
 
   -- Refusal 5 lets each job by, so each has a cost.
-  pub times-at : (i : ℕ) → i < length jobs → timesOk (jobAt jobs i .cost) (jobAt jobs i .period) (jobAt jobs i .deadline) ≡ true
+  times-at : (i : ℕ) → i < length jobs → timesOk (jobAt jobs i .cost) (jobAt jobs i .period) (jobAt jobs i .deadline) ≡ true
   times-at i l = every-at (jobOkAt Times jobs) (length jobs) (ok .1 .1 .1 .1 .0) i l
 
   pub cost-at : (i : ℕ) → i < length jobs → 1 ≤ jobAt jobs i .cost

@@ -15,7 +15,7 @@ module _ (x y : ℕ) where
   pub lesser-second : x ≡ 0 → lesser x y ≡ y
   lesser-second e = ap (λ (a : Bool). elim a [ true ↦ y | false ↦ elim (eqb y 0) [ true ↦ x | false ↦ min x y ] ]) (eq-eqb x 0 e)
 
-  pub lesser-first : (x ≡ 0 → ⊥) → y ≡ 0 → lesser x y ≡ x
+  lesser-first : (x ≡ 0 → ⊥) → y ≡ 0 → lesser x y ≡ x
   lesser-first d e = cases false true (ne-eqb x 0 d) (eq-eqb y 0 e)
 
   pub lesser-both : (x ≡ 0 → ⊥) → (y ≡ 0 → ⊥) → lesser x y ≡ min x y

@@ -9,7 +9,7 @@ use Rattle.records.specs.declared.job.Job.{Job}
 use Rattle.response.specs.Demand.{ceilDiv, work, interference, otherQuanta, layerShare, demand, least, finish, plusDelay, Reached, none, larger, run, largestResponse, firstBound, secondBound, bound}
 
 -- A job with its delay, C, T and D, and one without delay.
-pub late : ℕ → ℕ → ℕ → ℕ → Job
+late : ℕ → ℕ → ℕ → ℕ → Job
 late delay cost period deadline = record { id = 1; delay = delay; cost = cost; period = period; deadline = deadline }
 
 pub job : ℕ → ℕ → ℕ → Job
@@ -33,7 +33,7 @@ under first second r = record { jobs = first ∷ second ∷ []; quanta = []; lay
 pub beside : Job → Job → ℕ → ℕ → Reached → Case
 beside first second p q r = record { jobs = first ∷ second ∷ []; quanta = p ∷ q ∷ []; layer = 3; above = 0; answer = r }
 
-pub reaches : ℕ → ℕ → Reached
+reaches : ℕ → ℕ → Reached
 reaches response instance = record { response = response; instance = instance }
 
 pub cases : List Case
@@ -97,7 +97,7 @@ bounds c =
     (firstBound (c .jobs) (c .quanta) (has (c .layer)) (has (c .above)) (c .place), secondBound (c .jobs) (c .quanta) (has (c .layer)) (has (c .above)) (c .place), bound (c .jobs) (c .quanta) (has (c .layer)) (has (c .above)) (c .place))
 
 -- The first or the second of two jobs that share a level.
-pub pair : Job → Job → ℕ → ℕ → ℕ → ℕ × ℕ × ℕ → Pair
+pair : Job → Job → ℕ → ℕ → ℕ → ℕ × ℕ × ℕ → Pair
 pair one other p q place r = record { jobs = one ∷ other ∷ []; quanta = p ∷ q ∷ []; layer = 3; above = 0; place = place; answer = r }
 
 pub pairs : List Pair

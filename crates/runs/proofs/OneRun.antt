@@ -118,15 +118,15 @@ module _ (jobs : List Job) (q : List ℕ) (s a : Set) (k : ℕ) where
 -- ---- each of the two bounds
 
 module _ (spare quantum others : ℕ) (job : Job) where
-  pub runs-idle : quantum ≡ 0 → runsOn spare quantum others job ≡ false
+  runs-idle : quantum ≡ 0 → runsOn spare quantum others job ≡ false
   unfolding runsOn
   runs-idle e = simp (le-ltb 0 quantum (omega arith))
 
-  pub runs-held : job .cost * (quantum + others) * whole ≤ job .period * quantum * spare → runsOn spare quantum others job ≡ false
+  runs-held : job .cost * (quantum + others) * whole ≤ job .period * quantum * spare → runsOn spare quantum others job ≡ false
   unfolding runsOn
   runs-held h = simp (le-ltb (job .period * quantum * spare) (job .cost * (quantum + others) * whole) h, and-false)
 
-  pub runs-over : 0 < quantum → job .period * quantum * spare < job .cost * (quantum + others) * whole → runsOn spare quantum others job ≡ true
+  runs-over : 0 < quantum → job .period * quantum * spare < job .cost * (quantum + others) * whole → runsOn spare quantum others job ≡ true
   unfolding runsOn
   runs-over p h = simp (lt-ltb 0 quantum p, lt-ltb (job .period * quantum * spare) (job .cost * (quantum + others) * whole) h)
 

@@ -29,7 +29,7 @@ module _ (x y : List ℕ) (length-x : length x ≡ recordSize) (length-y : lengt
       byte e (suc (suc (suc (suc i)))) l = absurd (omega arith)
 
   -- The same, of the tests.
-  pub number-same : eqb (numberOf x) (numberOf y) ≡ sameBytes x y
+  number-same : eqb (numberOf x) (numberOf y) ≡ sameBytes x y
   number-same = elim (ℕ-discrete (numberOf x) (numberOf y)) [
     | yes e ↦ eq-eqb _ _ e ∙ sym (same-exactly x y .1 (number-exactly .0 e))
     | no e ↦ ne-eqb _ _ e ∙ sym (not-same x y (λ p. e (number-exactly .1 p)))

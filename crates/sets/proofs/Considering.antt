@@ -166,7 +166,7 @@ module _ (n : ℕ) (sequence : List ℕ) (B : BySize n sequence) (r : ℕ) (rl :
   unfolding subsets
   subsets-rising = keep-pairwise _ (λ s. within s r) sequence (B .rising)
 
-  pub subset-facts : (x : ℕ) → List·Memᴰ x (subsets r sequence) → (0 < x) × (x < 2 ^ n) × (within x r ≡ true)
+  subset-facts : (x : ℕ) → List·Memᴰ x (subsets r sequence) → (0 < x) × (x < 2 ^ n) × (within x r ≡ true)
   unfolding subsets
   subset-facts x t = let w = keep-out (λ s. within s r) sequence x t in let b = B .only x (w .0) in (b .0, b .1, w .1)
 

@@ -1,13 +1,12 @@
--- The lowest member of a set is a member, and none is below it; a set without one of its members is smaller by one, and has the
--- others. Assumes nothing.
-use mathlib.Core.Path.{_≡_, refl, sym, _∙_, ap, subst}
+-- The lowest member of a set is a member; a set without one of its members is smaller by one, and has the others. Assumes nothing.
+use mathlib.Core.Path.{_≡_, refl, sym, _∙_, ap}
 use mathlib.Core.Bool.{Bool, true, false, not, _&&_, and-eq-true-iff, and-false, false≢true}
 use mathlib.Core.Logic.{_⊎_, inl, inr}
 use Prim.Native.Nat.{ℕ, zero, suc, _+_, _/_, _%_, _^_, _<_}
-use native.Mathlib.Nat.{pow-suc, le-of-suc-le-suc}
+use native.Mathlib.Nat.{pow-suc}
 use native.Mathlib.Decide.{ℕ-discrete}
 use native.Mathlib.Omega.{arith}
-use lib.Count.{trailingZeros, under, trailing-le}
+use lib.Count.{trailingZeros, under}
 use lib.Dec.{eqb}
 use lib.Pow.{pow-lt}
 use borrow.Author.Tests.{eqb-true, eq-eqb, ne-eqb}
@@ -37,22 +36,9 @@ trailing-in (suc n) t h k = go (trailing-in n (t / 2)) (odd-or-even t)
         (omega (arith, trailing-step n t 0 e, w .0), ap (has t) (trailing-step n t 0 e) ∙ has-suc t (trailingZeros n (t / 2)) ∙ w .1)
     go ih (inr e) = (omega (arith, trailing-step n t 1 e), ap (has t) (trailing-step n t 1 e) ∙ has-low t 1 e)
 
-trailing-none : (n t i : ℕ) → i < trailingZeros n t → has t i ≡ false
-trailing-none zero t i h = absurd (omega (arith, trailing-le 0 t))
-trailing-none (suc n) t i h = go i h (λ (j : ℕ). trailing-none n (t / 2) j) (odd-or-even t)
-  where
-    go : (j : ℕ) → j < trailingZeros (suc n) t → ((m : ℕ) → m < trailingZeros n (t / 2) → has (t / 2) m ≡ false) → (t % 2 ≡ 0) ⊎ (t % 2 ≡ 1) → has t j ≡ false
-    go j l ih (inr e) = absurd (omega (arith, trailing-step n t 1 e))
-    go zero l ih (inl e) = has-low t 0 e
-    go (suc j) l ih (inl e) = has-suc t j ∙ ih j (le-of-suc-le-suc (subst (λ (x : ℕ). suc j < x) (trailing-step n t 0 e) l))
-
-pub lowest-in : (s : ℕ) → 0 < s → s < 2 ^ places → (lowest s < places) × (has s (lowest s) ≡ true)
+lowest-in : (s : ℕ) → 0 < s → s < 2 ^ places → (lowest s < places) × (has s (lowest s) ≡ true)
 unfolding lowest
 lowest-in s h k = trailing-in places s h k
-
-pub lowest-least : (s i : ℕ) → i < lowest s → has s i ≡ false
-unfolding lowest
-lowest-least s i h = trailing-none places s i h
 
 size-single : (i : ℕ) → i < places → size (single i) ≡ 1
 size-single i l =

@@ -24,7 +24,7 @@ pub has-suc : (s i : ℕ) → has s (suc i) ≡ has (s / 2) i
 unfolding has
 has-suc s i = rw (pow-succ', ← div-div-eq-div-mul)
 
-pub has-first : (s : ℕ) → has s 0 ≡ true → s % 2 ≡ 1
+has-first : (s : ℕ) → has s 0 ≡ true → s % 2 ≡ 1
 has-first s h = eqb-true (s % 2) 1 (sym (has-zero s) ∙ h)
 
 pub first-has : (s : ℕ) → s % 2 ≡ 1 → has s 0 ≡ true
@@ -73,7 +73,7 @@ or-half a b = or-shr a b 1
 or-odd : (a b : ℕ) → bitOr a b % 2 ≡ max (a % 2) (b % 2)
 or-odd a b = omega (arith, or-step a b)
 
-pub has-or : (i a b : ℕ) → has (bitOr a b) i ≡ (has a i || has b i)
+has-or : (i a b : ℕ) → has (bitOr a b) i ≡ (has a i || has b i)
 has-or = has-op bitOr max _||_ or-half or-odd (digits (λ x y. eqb (max x y) 1 ≡ (eqb x 1 || eqb y 1)) refl refl refl refl)
 
 rest-step : (a b : ℕ) → rest a b ≡ rest (a / 2) (b / 2) * 2 + (a % 2 - min (a % 2) (b % 2))
@@ -157,7 +157,7 @@ shifted i l = rw one-mul (single-is i l)
 pub has-single : (i j : ℕ) → i < places → has (single i) j ≡ eqb i j
 has-single i j l = ap (λ (x : ℕ). has x j) (single-is i l) ∙ has-power i j
 
-pub has-insert : (s i j : ℕ) → i < places → has (insert s i) j ≡ (has s j || eqb i j)
+has-insert : (s i j : ℕ) → i < places → has (insert s i) j ≡ (has s j || eqb i j)
 unfolding insert
 has-insert s i j l = has-or j s (single i) ∙ ap (λ (b : Bool). has s j || b) (has-single i j l)
 
@@ -225,10 +225,10 @@ module _ (n : ℕ) (set : Set) (s : ℕ) (C : Collects n set s) {b : Bool} (test
 
 -- ---- numbers and members
 
-pub halves : (n r s : ℕ) → Sub (suc n) (has s) (has r) → Sub n (has (s / 2)) (has (r / 2))
+halves : (n r s : ℕ) → Sub (suc n) (has s) (has r) → Sub n (has (s / 2)) (has (r / 2))
 halves n r s h i l e = sym (has-suc r i) ∙ h (suc i) (omega arith) (has-suc s i ∙ e)
 
-pub sub-le : (n r s : ℕ) → s < 2 ^ n → Sub n (has s) (has r) → s ≤ r
+sub-le : (n r s : ℕ) → s < 2 ^ n → Sub n (has s) (has r) → s ≤ r
 sub-le zero r s b h = omega arith
 sub-le (suc n) r s b h = omega (arith, sub-le n (r / 2) (s / 2) (omega arith) (halves n r s h), low)
   where

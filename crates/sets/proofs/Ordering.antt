@@ -90,7 +90,7 @@ order-out n s t = let w = sizes-out n n 1 s t in (w .0, w .1)
 
 -- ---- entries and their places
 
-pub member-at : (xs : List ℕ) (p : ℕ) → p < length xs → List·Memᴰ (getD xs p 0) xs
+member-at : (xs : List ℕ) (p : ℕ) → p < length xs → List·Memᴰ (getD xs p 0) xs
 member-at [] p l = absurd (omega arith)
 member-at (x ∷ xs) zero l = List·Memᴰ·head refl
 member-at (x ∷ xs) (suc p) l = List·Memᴰ·tail (member-at xs p (omega arith))

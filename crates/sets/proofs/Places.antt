@@ -88,7 +88,7 @@ unfolding sum
 sum-zero f zero h = refl
 sum-zero f (suc n) h = omega (arith, sum-zero f n (λ i l. h i (omega arith)), h n (omega arith))
 
-pub sum-strict : (f g : ℕ → ℕ) (n : ℕ) → ((i : ℕ) → i < n → f i ≤ g i) → (k : ℕ) → k < n → f k < g k → sum f n < sum g n
+sum-strict : (f g : ℕ → ℕ) (n : ℕ) → ((i : ℕ) → i < n → f i ≤ g i) → (k : ℕ) → k < n → f k < g k → sum f n < sum g n
 unfolding sum
 sum-strict f g zero h k l s = absurd (omega arith)
 sum-strict f g (suc n) h k l s = elim (ℕ-discrete k n) [
@@ -102,7 +102,7 @@ sum-add f g zero = refl
 sum-add f g (suc n) = omega (arith, sum-add f g n)
 
 -- The first place apart.
-pub sum-shift : (f : ℕ → ℕ) (n : ℕ) → sum f (suc n) ≡ f 0 + sum (λ i. f (suc i)) n
+sum-shift : (f : ℕ → ℕ) (n : ℕ) → sum f (suc n) ≡ f 0 + sum (λ i. f (suc i)) n
 unfolding sum
 sum-shift f zero = omega arith
 sum-shift f (suc n) = omega (arith, sum-shift f n)
@@ -228,13 +228,8 @@ pub count-first : (n : ℕ) (s : Set) → count (suc n) s ≡ cond (s 0) 1 0 + c
 unfolding count sumOver
 count-first n s = sum-shift (λ i. cond (s i) 1 0) n
 
-pub count-le : (n : ℕ) (s : Set) → count n s ≤ n
-unfolding count sumOver sum
-count-le zero s = le-refl 0
-count-le (suc n) s = omega (arith, count-le n s, cond-mono (s n) true {x = 1} {y = 1} (λ e. refl) (λ e. le-refl 1))
-
 -- A set within another that lacks one of its places counts fewer.
-pub count-less : (n : ℕ) (r s : Set) → Sub n s r → (k : ℕ) → k < n → r k ≡ true → s k ≡ false → count n s < count n r
+count-less : (n : ℕ) (r s : Set) → Sub n s r → (k : ℕ) → k < n → r k ≡ true → s k ≡ false → count n s < count n r
 unfolding count sumOver
 count-less n r s h k l e g = sum-strict _ _ n (λ i l′. cond-mono (s i) (r i) (h i l′) (λ x. le-refl 1)) k l (rw (g, e) (omega arith))
 
@@ -257,7 +252,7 @@ count-two n s i k d il kl ei ek = elim (decLe i k) [
     ]
 
 -- Where one is counted, a place is in the set.
-pub count-some : (n : ℕ) (s : Set) → 1 ≤ count n s → (i : ℕ) × (i < n) × (s i ≡ true)
+count-some : (n : ℕ) (s : Set) → 1 ≤ count n s → (i : ℕ) × (i < n) × (s i ≡ true)
 count-some zero s h = absurd (omega (arith, count-none s))
 count-some (suc n) s h = go (s n) refl (rw (count-suc n s) at h) (count-some n s)
   where
@@ -292,10 +287,6 @@ count-alone n s k l e h = elim (decLe 2 (count n s)) [
 ]
 
 -- ---- lists
-
-pub list-none : {A : Type 0} (f : ℕ → A) → listOf f 0 ≡ []
-unfolding listOf
-list-none f = refl
 
 pub list-suc : {A : Type 0} (f : ℕ → A) (n : ℕ) → listOf f (suc n) ≡ listOf f n ++ (f n ∷ [])
 unfolding listOf
