@@ -10,7 +10,7 @@ use crate::unassignable;
 use finishes::capacity;
 use records::job::Job;
 
-// What bounds are found from. Only this crate can set its parts, so that a workload is always one that `plain` or `new` made.
+// What bounds are found from. Another crate can make one only by `plain` or `new`.
 pub struct Workload {
     pub jobs: [Job; Job::MOST],
     // The utilisation of each job.
