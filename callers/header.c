@@ -4,9 +4,10 @@
 
 int main(void) {
     const uint8_t jobs[] = {1, 0, 0, 3, 0, 10, 0, 5};
-    return !(ruzhtylen_read_jobs(0, 0) == 1 && ruzhtylen_bounds(0, 0, 1, 4, 0, 0, 0, 0) == 1
-             && ruzhtylen_mark(0, 0, 1, 4, 0, 0, 0, 0) == 1 && ruzhtylen_plan(0, 0, 1, 4, 0, 0, 0, 0) == 1
-             && ruzhtylen_plan(jobs, sizeof jobs, 1, 4, 0, 0, 0, 0) == 12
-             && ruzhtylen_mark(jobs, sizeof jobs, 1, 4, 0, 0, 0, 0) == 7
+    return !(ruzhtylen_read_jobs(0, 0) == RUZHTYLEN_JOB_COUNT && ruzhtylen_bounds(0, 0, 1, 4, 0, 0, 0, 0) == RUZHTYLEN_JOB_COUNT
+             && ruzhtylen_mark(0, 0, 1, 4, 0, 0, 0, 0) == RUZHTYLEN_JOB_COUNT
+             && ruzhtylen_plan(0, 0, 1, 4, 0, 0, 0, 0) == RUZHTYLEN_JOB_COUNT
+             && ruzhtylen_plan(jobs, sizeof jobs, 1, 4, 0, 0, 0, 0) == RUZHTYLEN_OUTPUT_LENGTH
+             && ruzhtylen_mark(jobs, sizeof jobs, 1, 4, 0, 0, 0, 0) == RUZHTYLEN_CONFIGURATION_SIZE
              && ruzhtylen_same_bytes(0, 0, 0, 0) == 1);
 }

@@ -16,6 +16,23 @@
 extern "C" {
 #endif
 
+/* Byte 0 of an answer: the first refusal that applies, or none. The scope document has them by number; 4 is met at the exam desk alone. */
+enum ruzhtylen_refusal {
+    RUZHTYLEN_ACCEPTED = 0,
+    RUZHTYLEN_JOB_COUNT = 1,          /* the job block is empty, over 64 bytes or no multiple of 8 */
+    RUZHTYLEN_JOB_ID = 2,             /* an id is 0 */
+    RUZHTYLEN_ID_ORDER = 3,           /* an id is not above the one before it */
+    RUZHTYLEN_PLACE = 4,              /* there is no job at that place */
+    RUZHTYLEN_JOB_TIMES = 5,          /* a cost is 0 or above its deadline or period, or a period or deadline is above 60000 */
+    RUZHTYLEN_QUANTUM_RANGE = 6,      /* the lowest quantum is 0 or above the highest, or the highest is above 64 */
+    RUZHTYLEN_CONFIGURATION_SIZE = 7, /* the configuration block has not one record of four bytes for each job */
+    RUZHTYLEN_CONFIGURATION_IDS = 8,  /* its ids are not the jobs' ids in order */
+    RUZHTYLEN_RECORD_SHAPE = 9,       /* a level, a policy or a quantum that no record may have */
+    RUZHTYLEN_LEVEL_SHARING = 10,     /* a policy 1 job shares its level, or a policy 2 job is alone on it */
+    RUZHTYLEN_NOT_PLACED = 11,        /* a job is not placed, where all have to be */
+    RUZHTYLEN_OUTPUT_LENGTH = 12      /* an output is shorter than what is to be written */
+};
+
 /* Byte 1: the number of jobs. */
 uint32_t ruzhtylen_read_jobs(const uint8_t *jobs, size_t jobs_length);
 
