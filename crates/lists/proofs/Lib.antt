@@ -1,5 +1,6 @@
 pub mod Decimal
 pub mod Parsing
-pub mod Listing
-pub mod ListTrip
-pub mod ListCases
+pub mod FieldByField
+pub mod RowByRow
+pub mod TextTrip
+pub mod TextCases

@@ -1,6 +1,6 @@
 -- Laws of numbers, words and fields of a line, as a reader takes them one after the other. Assumes nothing.
 use Prim.Native.Nat.{ℕ, suc, _+_, _-_, _*_, _≤_, _<_, min}
-use mathlib.Core.Path.{_≡_, refl, sym, ap, ap₂, subst, _∙_}
+use mathlib.Core.Path.{_≡_, refl, sym, ap, ap₂, _∙_}
 use mathlib.Core.Bool.{Bool, true, false, cond, not, _&&_, false≢true}
 use mathlib.Core.List.{List, [], _∷_, _++_, append-assoc, append-nil}
 use native.Mathlib.Decide.{decLe}
@@ -11,14 +11,11 @@ use lib.ListN.{length, getD, take, drop, length-drop, drop-of-length-le}
 use lib.Seq.{drop-cons, drop-drop, getD-drop}
 use borrow.Author.Tests.{not-true, leb-true, lt-leb}
 use Rattle.lists.specs.Decimals.{digit}
-use Rattle.lists.specs.declared.fault.Fault.{Fault}
-use Rattle.lists.specs.declared.fault.Fault.the-variants.{NotANumber, TooLarge, NotFourOrFive}
+use Rattle.lists.specs.declared.fault.Fault.the-variants.{NotANumber, TooLarge}
 use Rattle.lists.specs.declared.words.Mark.the-variants.{Blank, Word}
 use Rattle.lists.specs.declared.words.WordAnswer.{WordAnswer}
 use Rattle.lists.specs.declared.words.WordAnswer.the-variants.{Number, Wrong}
-use Rattle.lists.specs.declared.list.FieldAnswer.{FieldAnswer}
-use Rattle.lists.specs.declared.list.FieldAnswer.the-variants.{Number as FieldNumber, Wrong as FieldWrong}
-use Rattle.lists.specs.Lists.{isBlank, isMark, isDigit, partsFrom, parts, before, nonEmpty, words, allDigits, valueFrom, numberOf, numbers, wrong, wordThen, readNumbers, fieldLimits, delayLimits, numbersLine, contentLine, fieldThen, FieldWithin, FieldRead}
+use Rattle.lists.specs.Words.{isBlank, isMark, isDigit, partsFrom, parts, before, nonEmpty, words, allDigits, valueFrom}
 
 -- ---- up to a byte
 
@@ -70,8 +67,8 @@ digit-range byte = by (leb (digit 0) byte) refl
     by false e f = absurd (false≢true f)
 
 -- A word after digits that stand for n, as a number of at most `limit`.
-abbrev pub numberFrom : ℕ → ℕ → List ℕ → WordAnswer
-numberFrom limit n word = cond (allDigits word) (cond (leb (valueFrom n word) limit) (Number (valueFrom n word)) (Wrong TooLarge)) (Wrong NotANumber)
+abbrev pub numberFrom : ℕ → ℕ → ℕ → List ℕ → WordAnswer
+numberFrom place limit n word = cond (allDigits word) (cond (leb (valueFrom n word) limit) (Number (valueFrom n word)) (Wrong (TooLarge place limit))) (Wrong (NotANumber place))
 
 -- Past the limit it does not matter by how much.
 value-capped : (limit a b : ℕ) → min a (limit + 1) ≡ min b (limit + 1) → (word : List ℕ) → min (valueFrom a word) (limit + 1) ≡ min (valueFrom b word) (limit + 1)
@@ -81,34 +78,25 @@ value-capped limit a b e (byte ∷ word) = value-capped limit (a * 10 + (byte - 
     step : (d : ℕ) → min (a * 10 + d) (limit + 1) ≡ min (b * 10 + d) (limit + 1)
     step d = omega arith
 
-pub number-capped : (limit a b : ℕ) → min a (limit + 1) ≡ min b (limit + 1) → (word : List ℕ) → numberFrom limit a word ≡ numberFrom limit b word
-number-capped limit a b e word = ap (λ (w : WordAnswer). cond (allDigits word) w (Wrong NotANumber)) (by (valueFrom a word) (valueFrom b word) (value-capped limit a b e word))
+pub number-capped : (place limit a b : ℕ) → min a (limit + 1) ≡ min b (limit + 1) → (word : List ℕ) → numberFrom place limit a word ≡ numberFrom place limit b word
+number-capped place limit a b e word = ap (λ (w : WordAnswer). cond (allDigits word) w (Wrong (NotANumber place))) (by (valueFrom a word) (valueFrom b word) (value-capped limit a b e word))
   where
-    by : (x y : ℕ) → min x (limit + 1) ≡ min y (limit + 1) → cond (leb x limit) (Number x) (Wrong TooLarge) ≡ cond (leb y limit) (Number y) (Wrong TooLarge)
+    by : (x y : ℕ) → min x (limit + 1) ≡ min y (limit + 1) → cond (leb x limit) (Number x) (Wrong (TooLarge place limit)) ≡ cond (leb y limit) (Number y) (Wrong (TooLarge place limit))
     by x y same = elim (decLe x limit) [
-      | yes l ↦ let f : x ≡ y = omega arith in ap (λ (z : ℕ). cond (leb z limit) (Number z) (Wrong TooLarge)) f
+      | yes l ↦ let f : x ≡ y = omega arith in ap (λ (z : ℕ). cond (leb z limit) (Number z) (Wrong (TooLarge place limit))) f
       | no l ↦ let m : limit < x = omega arith in let n : limit < y = omega arith in rw (lt-leb x limit m, lt-leb y limit n)
     ]
 
 -- One byte on.
-pub number-next : (limit n : ℕ) (word : List ℕ) (i : ℕ) → i < length word → isDigit (getD word i 0) ≡ true
-    → numberFrom limit n (drop i word) ≡ numberFrom limit (n * 10 + (getD word i 0 - digit 0)) (drop (i + 1) word)
-number-next limit n word i h e = rw (add-one i, drop-cons word i 0 h, e)
+pub number-next : (place limit n : ℕ) (word : List ℕ) (i : ℕ) → i < length word → isDigit (getD word i 0) ≡ true
+    → numberFrom place limit n (drop i word) ≡ numberFrom place limit (n * 10 + (getD word i 0 - digit 0)) (drop (i + 1) word)
+number-next place limit n word i h e = rw (add-one i, drop-cons word i 0 h, e)
 
-pub number-stop : (limit n : ℕ) (word : List ℕ) (i : ℕ) → i < length word → isDigit (getD word i 0) ≡ false → numberFrom limit n (drop i word) ≡ Wrong NotANumber
-number-stop limit n word i h e = rw (drop-cons word i 0 h, e)
+pub number-stop : (place limit n : ℕ) (word : List ℕ) (i : ℕ) → i < length word → isDigit (getD word i 0) ≡ false → numberFrom place limit n (drop i word) ≡ Wrong (NotANumber place)
+number-stop place limit n word i h e = rw (drop-cons word i 0 h, e)
 
-pub number-end : (limit n : ℕ) (word : List ℕ) (i : ℕ) → length word ≤ i → numberFrom limit n (drop i word) ≡ cond (leb n limit) (Number n) (Wrong TooLarge)
-number-end limit n word i h = rw (drop-of-length-le word h)
-
-number-small : (limit : ℕ) (word : List ℕ) (n : ℕ) → numberOf limit word ≡ Number n → n ≤ limit
-unfolding numberOf
-number-small limit word n = by (allDigits word) (leb (valueFrom 0 word) limit) refl
-  where
-    by : (a b : Bool) → leb (valueFrom 0 word) limit ≡ b → cond a (cond b (Number (valueFrom 0 word)) (Wrong TooLarge)) (Wrong NotANumber) ≡ Number n → n ≤ limit
-    by true true e f = let g : valueFrom 0 word ≡ n = cc in omega (arith, leb-true (valueFrom 0 word) limit e)
-    by true false e f = absurd (let z : _≡_ {A = ℕ} 0 1 = cc in omega arith)
-    by false b e f = absurd (let z : _≡_ {A = ℕ} 0 1 = cc in omega arith)
+pub number-end : (place limit n : ℕ) (word : List ℕ) (i : ℕ) → length word ≤ i → numberFrom place limit n (drop i word) ≡ cond (leb n limit) (Number n) (Wrong (TooLarge place limit))
+number-end place limit n word i h = rw (drop-of-length-le word h)
 
 -- ---- words
 
@@ -155,7 +143,7 @@ module _ (content : List ℕ) (at start : ℕ) (found : start ≡ at + length (b
   pub no-word : length content ≤ start → words (drop at content) ≡ []
   no-word h = skipped ∙ ap words (drop-of-length-le content h)
 
-  next-word : at ≤ length content → start < length content → (end : ℕ) → end ≡ start + length (before (isMark Blank) (drop start content))
+  pub next-word : at ≤ length content → start < length content → (end : ℕ) → end ≡ start + length (before (isMark Blank) (drop start content))
       → words (drop at content) ≡ take (end - start) (drop start content) ∷ words (drop end content)
   next-word room h end e =
       let long = length (before (isMark Blank) (drop start content)) in
@@ -173,58 +161,3 @@ module _ (content : List ℕ) (at start : ℕ) (found : start ≡ at + length (b
           let inside : n < length (drop at content) = simp length-drop (omega arith) in
           let e : not (isBlank (getD (drop at content) n 0)) ≡ true = before-stop (isMark Word) (drop at content) inside in
           ap isBlank (ap (λ (k : ℕ). getD content k 0) found ∙ sym (getD-drop at content n 0)) ∙ not-true (isBlank (getD (drop at content) n 0)) e
-
-  -- Whether words are left where none is asked for, or where one may be missing.
-  pub none-left : (optional : List ℕ) → length content ≤ start → readNumbers [] optional (words (drop at content)) ≡ numbers []
-  none-left optional h = ap (readNumbers [] optional) (no-word h)
-
-  pub some-left : at ≤ length content → start < length content → readNumbers [] [] (words (drop at content)) ≡ wrong NotFourOrFive
-  some-left room h = ap (readNumbers [] []) (next-word room h (start + length (before (isMark Blank) (drop start content))) refl)
-
-  pub one-there : (limit : ℕ) (optional : List ℕ) → at ≤ length content → start < length content
-      → readNumbers [] (limit ∷ optional) (words (drop at content)) ≡ readNumbers (limit ∷ []) optional (words (drop at content))
-  one-there limit optional room h = let e = next-word room h (start + length (before (isMark Blank) (drop start content))) refl in rw e
-
-  -- The field that a reader makes of the first word.
-  module _ (limit : ℕ) where
-    pub field-missing : length content ≤ start → FieldRead content at limit (FieldWrong NotFourOrFive)
-    field-missing h = record { reads = λ limits optional. ap (readNumbers (limit ∷ limits) optional) (no-word h); within = tt }
-
-    module _ (room : at ≤ length content) (h : start < length content) (end : ℕ) (e : end ≡ start + length (before (isMark Blank) (drop start content)))
-        (word : WordAnswer) (read : word ≡ numberOf limit (take (end - start) (drop start content))) where
-      step : (limits optional : List ℕ)
-          → readNumbers (limit ∷ limits) optional (words (drop at content)) ≡ wordThen word (readNumbers limits optional (words (drop end content)))
-      step limits optional =
-          ap (readNumbers (limit ∷ limits) optional) (next-word room h end e)
-          ∙ ap (λ (w : WordAnswer). wordThen w (readNumbers limits optional (words (drop end content)))) (sym read)
-
-      pub field-number : (n : ℕ) → word ≡ Number n → FieldRead content at limit (FieldNumber n end)
-      field-number n f = record {
-        reads = λ limits optional. step limits optional ∙ ap (λ (w : WordAnswer). wordThen w (readNumbers limits optional (words (drop end content)))) f;
-        within = (number-small limit (take (end - start) (drop start content)) n (sym read ∙ f), omega (arith, e, before-within (isMark Blank) content start (omega arith)));
-      }
-
-      pub field-wrong : (fault : Fault) → word ≡ Wrong fault → FieldRead content at limit (FieldWrong fault)
-      field-wrong fault f = record {
-        reads = λ limits optional. step limits optional ∙ ap (λ (w : WordAnswer). wordThen w (readNumbers limits optional (words (drop end content)))) f;
-        within = tt;
-      }
-
--- A line with a word is that of its numbers.
-pub some-words : (content : List ℕ) (start : ℕ) → start ≡ 0 + length (before (isMark Word) content) → start < length content
-    → contentLine content ≡ numbersLine (readNumbers fieldLimits delayLimits (words content))
-some-words content start found h =
-    let e = next-word content 0 start found (omega arith) h (start + length (before (isMark Blank) (drop start content))) refl in
-    rw e
-
--- The words after a field that was read.
-pub field-then : {content : List ℕ} {at limit : ℕ} {r : FieldAnswer} {n next : ℕ} → FieldRead content at limit r → r ≡ FieldNumber n next → (limits optional : List ℕ)
-    → readNumbers (limit ∷ limits) optional (words (drop at content)) ≡ wordThen (Number n) (readNumbers limits optional (words (drop next content)))
-field-then {content} read e limits optional = read .reads limits optional ∙ ap (fieldThen content limits optional) e
-
-pub field-fault : {content : List ℕ} {at limit : ℕ} {r : FieldAnswer} {fault : Fault} → FieldRead content at limit r → r ≡ FieldWrong fault → (limits optional : List ℕ)
-    → readNumbers (limit ∷ limits) optional (words (drop at content)) ≡ wrong fault
-field-fault {content} read e limits optional = read .reads limits optional ∙ ap (fieldThen content limits optional) e
-
-pub field-within : {content : List ℕ} {at limit : ℕ} {r : FieldAnswer} {n next : ℕ} → FieldRead content at limit r → r ≡ FieldNumber n next → (n ≤ limit) × (next ≤ length content)
-field-within {content} {at} {limit} read e = subst (FieldWithin content limit) e (read .within)

@@ -1,2 +1,4 @@
 pub mod Decimals
+pub mod Words
+pub mod Rows
 pub mod Lists

@@ -1,7 +1,13 @@
-// What can be wrong with a line of a job list.
+// What can be wrong with a line of a text.
 pub enum Fault {
-    NotANumber,
-    TooLarge,
-    NotFourOrFive,
+    // The word at a place of its line, counted from 1, is no number, or is above its limit.
+    NotANumber(u8),
+    TooLarge(u8, u16),
+    // It has not as many words as a job, a setting or a range has.
+    JobWords,
+    SettingWords,
+    RangeWords,
+    // It has a row more than a table has entries, or says a range a second time.
     TooMany,
+    SecondRange,
 }

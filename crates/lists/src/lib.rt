@@ -1,4 +1,6 @@
-// Job lists as text.
+// Texts: job lists and configurations.
 pub mod fault;
-pub mod list;
+pub mod fields;
+pub mod rows;
+pub mod tables;
 mod words;

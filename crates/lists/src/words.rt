@@ -2,7 +2,7 @@
 ghost use mathlib.Core.Path.{_≡_};
 ghost use Prim.Native.Nat.{_+_, min};
 ghost use lib.ListN.{length, drop};
-ghost use Rattle.lists.specs.Lists.{isBlank, isMark, isDigit, before, numberOf};
+ghost use Rattle.lists.specs.Words.{isBlank, isMark, isDigit, before, numberOf, faultOf};
 use crate::fault::Fault;
 
 // The bytes that a search stops at: `Word` is any byte but a blank.
@@ -73,22 +73,32 @@ fn capped(value: u32, limit: u16) -> u32
     if value < most { value } else { most }
 }
 
-// A word as a number of at most `limit`.
-pub(crate) fn read_number(word: &[u8], limit: u16) -> WordAnswer
-    ensures { λ r. ⌜ r ≡ numberOf limit (now (word .entry)) ⌝ }
+// A word as a number of at most `limit`; `place` is the word's in its line.
+pub(crate) fn read_number(word: &[u8], place: u8, limit: u16) -> WordAnswer
+    ensures { λ r. ⌜ r ≡ numberOf place limit (now (word .entry)) ⌝ }
 {
     let mut value: u32 = 0;
     let mut i = 0;
     while i < word.len() {
         let byte = word[i];
         if !is_digit(byte) {
-            return WordAnswer::Wrong(Fault::NotANumber);
+            return WordAnswer::Wrong(Fault::NotANumber(place));
         }
         value = capped(value * 10 + (byte - b'0') as u32, limit);
         i += 1;
     }
     if (limit as u32) < value {
-        return WordAnswer::Wrong(Fault::TooLarge);
+        return WordAnswer::Wrong(Fault::TooLarge(place, limit));
     }
     WordAnswer::Number(value as u16)
+}
+
+// The fault of a word; TooMany where there is none.
+pub(crate) fn fault_of(word: WordAnswer) -> Fault
+    ensures { λ r. ⌜ r ≡ faultOf word ⌝ }
+{
+    match word {
+        WordAnswer::Number(_) => Fault::TooMany,
+        WordAnswer::Wrong(fault) => fault,
+    }
 }

@@ -1,17 +1,14 @@
 -- The key program reads enough of its input. Assumes nothing.
-use Prim.Native.Nat.{ℕ, _≤_, _<_}
+use Prim.Native.Nat.{ℕ, _<_}
 use mathlib.Core.Path.{_≡_, sym, ap, _∙_}
-use mathlib.Core.List.{List, _∷_, [], _++_}
+use mathlib.Core.List.{List}
 use native.Mathlib.Decide.{decLe}
 use native.Mathlib.Omega.{arith}
 use lib.ListN.{length, take}
 use lib.Seq.{take-all, length-take-le}
 use borrow.Author.Tests.{le-leb, lt-leb}
-use Rattle.records.specs.Refusals.{Answer, refused, answer}
-use Rattle.records.specs.Jobs.{jobTests, jobCount, jobList}
-use Rattle.records.specs.Ranges.{rangeTests}
-use Rattle.records.specs.Calls.{callTests}
-use Rattle.text.specs.Keys.{refusedText, keyOr, keyOf, programKey, programReads}
+use Rattle.records.specs.Refusals.{refused}
+use Rattle.text.specs.Keys.{refusedText, keyOf, programKey, programReads}
 
 -- A block of more than 64 bytes is refused for its size.
 too-long : (block : List ℕ) (low high : ℕ) → 64 < length block → keyOf block low high ≡ refusedText 1

@@ -1,13 +1,15 @@
 -- Laws of text written to a buffer, part after part. Assumes nothing.
 use Prim.Native.Nat.{ℕ, suc, _+_, _≤_, _<_}
 use mathlib.Core.Path.{_≡_, refl, sym, ap, subst, _∙_}
+use mathlib.Core.Bool.{Bool, true, false, cond}
 use mathlib.Core.List.{List, [], _∷_, _++_}
 use native.Mathlib.Nat.{add-zero, add-suc, suc-add, add-assoc, zero-add}
 use native.Mathlib.Numerals.{add-one}
 use native.Mathlib.Omega.{arith}
+use lib.Dec.{eqb}
 use lib.ListN.{length, getD, take, set, length-append}
 use lib.Seq.{sets, length-sets, take-suc}
-use Rattle.text.specs.Lines.{rowsTo, Wrote}
+use Rattle.text.specs.Lines.{rowsTo, usedAfter, Wrote}
 
 sets-append : {A : Type 0} (l : List A) (i : ℕ) (xs ys : List A) → sets l i (xs ++ ys) ≡ sets (sets l i xs) (i + length xs) ys
 sets-append l i [] ys = ap (λ (k : ℕ). sets l k ys) (sym (add-zero i))
@@ -36,6 +38,9 @@ retold {k} {old} {new} {at} {r} w e = subst (λ (l : List ℕ). Wrote k old new 
 pub limited : {k : ℕ} (m : ℕ) {old new : List ℕ} {at r : ℕ} {xs : List ℕ} → Wrote k old new at r xs → length xs ≤ m → Wrote m old new at r xs
 limited m w h = record { next = w .next; short = h; bytes = w .bytes }
 
+pub limited-to : {k m : ℕ} {old new : List ℕ} {at r : ℕ} {xs : List ℕ} → k ≡ m → Wrote k old new at r xs → Wrote m old new at r xs
+limited-to {k} {m} e w = limited m w (omega (arith, w .short))
+
 pub widened : {k : ℕ} (m : ℕ) {old new : List ℕ} {at r : ℕ} {xs : List ℕ} → Wrote k old new at r xs → k ≤ m → Wrote m old new at r xs
 widened m w h = limited m w (omega (arith, w .short))
 
@@ -49,3 +54,11 @@ rows-next row i = rw (add-one i) refl
 -- Text from the start of a buffer on.
 pub whole : {k : ℕ} {old new : List ℕ} {r : ℕ} {xs : List ℕ} → Wrote k old new 0 r xs → k ≤ length old → (r ≤ length new) × (r ≡ length xs) × (new ≡ sets old 0 xs)
 whole {k} {old} {new} {r} {xs} w h = (omega (arith, w .next, w .short, h, same-length w), w .next ∙ zero-add (length xs), w .bytes)
+
+-- A byte of a template uses at most one number more.
+pub used-small : (byte used : ℕ) → usedAfter byte used ≤ used + 1
+used-small byte used = by (eqb byte 37)
+  where
+    by : (b : Bool) → cond b (used + 1) used ≤ used + 1
+    by true = omega arith
+    by false = omega arith

@@ -1,8 +1,10 @@
 -- Lines of text as bytes of ASCII, and what a function leaves that writes text to a buffer. Assumes nothing.
 use Prim.Native.Nat.{ℕ, zero, suc, _+_, _≤_}
 use mathlib.Core.Path.{_≡_}
+use mathlib.Core.Bool.{cond}
 use mathlib.Core.List.{List, [], _∷_, _++_}
-use lib.ListN.{length}
+use lib.Dec.{eqb}
+use lib.ListN.{length, getD}
 use lib.Seq.{sets}
 use Rattle.lists.specs.Decimals.{space, lineFeed, decimal}
 
@@ -15,6 +17,23 @@ line a b c d e =
 abbrev pub rowsTo : (ℕ → List ℕ) → ℕ → List ℕ
 rowsTo row zero = []
 rowsTo row (suc i) = rowsTo row i ++ row i
+
+-- What stands for a byte of a template: the number for a `%`, and else the byte.
+abbrev pub piece : ℕ → ℕ → List ℕ
+piece byte number = cond (eqb byte 37) (decimal number) (byte ∷ [])
+
+-- How many numbers are used up after the byte.
+abbrev pub usedAfter : ℕ → ℕ → ℕ
+usedAfter byte used = cond (eqb byte 37) (used + 1) used
+
+-- A text in which each `%` of the template stands for the next of the numbers: what is `done`, and the rest with the numbers from place
+-- `used` on.
+abbrev pub filledFrom : List ℕ → List ℕ → List ℕ → ℕ → List ℕ
+filledFrom numbers done [] used = done
+filledFrom numbers done (byte ∷ template) used = filledFrom numbers (done ++ piece byte (getD numbers used 0)) template (usedAfter byte used)
+
+unfoldable pub filled : List ℕ → List ℕ → List ℕ
+filled template numbers = filledFrom numbers [] template 0
 
 -- Text of at most `limit` bytes is written from `at` on, r is the place after it, and the rest of the buffer stays.
 pub record Wrote (limit : ℕ) (old new : List ℕ) (at r : ℕ) (text : List ℕ) : Type 0 where

@@ -1,4 +1,4 @@
-// What is said of a faulty line of a job list.
+// What is said of a faulty line of a text.
 ghost use mathlib.Core.Path.{_≡_};
 ghost use Prim.Native.Nat.{_+_, _≤_};
 ghost use lib.ListN.{length};
@@ -9,33 +9,61 @@ use crate::buffer;
 use lists::fault::Fault;
 
 // The size of a buffer that holds what is said of any line.
-pub const SIZE: usize = 80;
+pub const SIZE: usize = 640;
 
 fn put_message(output: &mut [u8], at: usize, fault: Fault) -> usize
-    requires { ⌜ at + 60 ≤ length (now output) ⌝ }
-    ensures { λ r. ⌜ Wrote 60 (now (output .entry)) (now (output .exit)) at r (message fault) ⌝ }
+    requires { ⌜ at + 600 ≤ length (now output) ⌝ }
+    ensures { λ r. ⌜ Wrote 600 (now (output .entry)) (now (output .exit)) at r (message fault) ⌝ }
 {
     match fault {
-        Fault::NotANumber => buffer::put_text(output, at, b"a word is not a number"),
-        Fault::TooLarge => {
-            buffer::put_text(
+        Fault::NotANumber(place) => {
+            buffer::put_filled(
                 output,
                 at,
-                b"an id or a delay is above 255 or a number above 65535",
+                b"word % is not a number",
+                [place as u32, 0, 0, 0],
             )
         }
-        Fault::NotFourOrFive => {
-            buffer::put_text(
+        Fault::TooLarge(place, limit) => {
+            buffer::put_filled(
+                output,
+                at,
+                b"word % is above %",
+                [place as u32, limit as u32, 0, 0],
+            )
+        }
+        Fault::JobWords => {
+            buffer::put_filled(
                 output,
                 at,
                 b"not four numbers, or five: id cost period deadline delay",
+                [0u32; 4],
             )
         }
-        Fault::TooMany => buffer::put_text(output, at, b"more than 8 jobs"),
+        Fault::SettingWords => {
+            buffer::put_filled(
+                output,
+                at,
+                b"not four words, or five: id level policy quantum bound",
+                [0u32; 4],
+            )
+        }
+        Fault::RangeWords => {
+            buffer::put_filled(
+                output,
+                at,
+                b"not two numbers after the word quanta",
+                [0u32; 4],
+            )
+        }
+        Fault::TooMany => { buffer::put_filled(output, at, b"more than 8 jobs", [0u32; 4]) }
+        Fault::SecondRange => {
+            buffer::put_filled(output, at, b"a second line with quanta", [0u32; 4])
+        }
     }
 }
 
-// The text about a faulty line, at the start of the output; it gives the text's length.
+// The text about a faulty line, at the start of the output; it gives the text's length. No entry.
 pub fn put_fault(line: u32, fault: Fault, output: &mut [u8; SIZE]) -> usize
     ensures { λ r. ⌜ (r ≤ length (now (output .exit))) × (r ≡ length (faultText line fault)) × (now (output .exit) ≡ sets (now (output .entry)) 0 (faultText line fault)) ⌝ }
 {

@@ -8,6 +8,9 @@ use borrow.Author.Needs.{needs}
 use Rattle.list.proofs.print_block.Statement.{statement}
 use Rattle.list.proofs.print_block.Tie as tie
 
+jobs-from-requires : tie.Need-jobs-from-requires
+jobs-from-requires c κs = search needs
+
 slice-aggregate-write-unjudged : tie.Need-slice-aggregate-write-unjudged
 slice-aggregate-write-unjudged c = search needs
 
@@ -42,6 +45,7 @@ pub print-block-spec : {M : Type 1} → statement M
 print-block-spec =
     tie.close
     (tie.spec
+    jobs-from-requires
     slice-aggregate-write-unjudged
     write-unjudged-requires
     enum-known-wrote

@@ -4,6 +4,9 @@ use borrow.Author.Needs.{needs}
 use Rattle.list.proofs.print_fault.Statement.{statement}
 use Rattle.list.proofs.print_fault.Tie as tie
 
+cast-put-fault : tie.Need-cast-put-fault
+cast-put-fault c = search needs
+
 put-fault-requires : tie.Need-put-fault-requires
 put-fault-requires c κs = search needs
 
@@ -23,6 +26,7 @@ pub print-fault-spec : {M : Type 1} → statement M
 print-fault-spec =
     tie.close
     (tie.spec
+    cast-put-fault
     put-fault-requires
     array-share-prefix-output
     slice-aggregate-write-all

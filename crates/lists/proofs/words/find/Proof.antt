@@ -3,7 +3,7 @@ use mathlib.Core.Path.{_≡_, refl, sym, ap, _∙_}
 use native.Mathlib.Omega.{arith}
 use lib.ListN.{length, drop, drop-of-length-le}
 use borrow.Author.Needs.{needs}
-use Rattle.lists.specs.Lists.{isMark, before}
+use Rattle.lists.specs.Words.{isMark, before}
 use Rattle.lists.proofs.Parsing.{before-hit, before-miss}
 use Rattle.lists.proofs.words.find.Statement.{statement}
 use Rattle.lists.proofs.words.find.Tie as tie

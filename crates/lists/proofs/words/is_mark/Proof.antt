@@ -1,7 +1,7 @@
 use mathlib.Core.Path.{sym, ap, _∙_}
 use mathlib.Core.Bool.{not}
 use Rattle.lists.specs.declared.words.Mark.{Mark}
-use Rattle.lists.specs.Lists.{isMark}
+use Rattle.lists.specs.Words.{isMark}
 use borrow.Author.Needs.{needs}
 use Rattle.lists.proofs.words.is_mark.Statement.{statement}
 use Rattle.lists.proofs.words.is_mark.Tie as tie
