@@ -1,7 +1,7 @@
 /* Ruzhtylen's entries for callers in C: link target/staticlib/libcapi.a, which `rt staticlib capi` writes.
    A slice is a pointer and its length. Blocks are those of the scope document, two-byte numbers with the high byte first; the second
    byte of a job record is the job's delay.
-   Any input gets an answer. Byte 0 of an answer, its lowest, is the refusal's number, 0 for none; a refusal changes nothing lent.
+   Any input gets an answer. Byte 0 of a 32-bit answer, its lowest, is the refusal's number, 0 for none; a refusal changes nothing lent.
    Bytes of an output past the need stay. With length 0 a pointer may be anything, null too.
    The proofs take it that a pointer has as many bytes as its length says, and that an output overlaps neither an input nor the other
    output; for a call that does otherwise nothing is promised.
@@ -27,7 +27,7 @@ enum ruzhtylen_refusal {
     RUZHTYLEN_QUANTUM_RANGE = 6,      /* the lowest quantum is 0 or above the highest, or the highest is above 64 */
     RUZHTYLEN_CONFIGURATION_SIZE = 7, /* the configuration block has not one record of four bytes for each job */
     RUZHTYLEN_CONFIGURATION_IDS = 8,  /* its ids are not the jobs' ids in order */
-    RUZHTYLEN_RECORD_SHAPE = 9,       /* a level, a policy or a quantum that no record may have */
+    RUZHTYLEN_RECORD_SHAPE = 9,       /* a level, a policy and a quantum that no record may have together */
     RUZHTYLEN_LEVEL_SHARING = 10,     /* a policy 1 job shares its level, or a policy 2 job is alone on it */
     RUZHTYLEN_NOT_PLACED = 11,        /* a job is not placed, where all have to be */
     RUZHTYLEN_OUTPUT_LENGTH = 12      /* an output is shorter than what is to be written */

@@ -34,6 +34,18 @@ fn print_block(rows: [Row; Job::MOST], n: usize) {
     io::write_all(STDOUT_FILENO, &block[..size]);
 }
 
+// The same, unless the list says a range.
+fn print_unless(ranged: bool, rows: [Row; Job::MOST], n: usize) {
+    if ranged {
+        io::write_all(
+            STDERR_FILENO,
+            b"the list says a range, which a job block does not hold\n",
+        );
+        return;
+    }
+    print_block(rows, n);
+}
+
 fn main() {
     let mut buffer = io::large_buffer();
     let got = io::read_full(STDIN_FILENO, &mut buffer);
@@ -42,18 +54,11 @@ fn main() {
         return;
     }
     let read = lists::rows::read_rows(Form::Job, &buffer[..got]);
-    if read.ranged {
-        io::write_all(
-            STDERR_FILENO,
-            b"the list says a range, which a job block does not hold\n",
-        );
-        return;
-    }
     let answer = read.answer;
     match answer {
         RowsAnswer::Rows(count) => {
             let rows = read.rows;
-            print_block(rows, count);
+            print_unless(read.ranged, rows, count);
         }
         RowsAnswer::Faulty(line, fault) => print_fault(line, fault),
     }

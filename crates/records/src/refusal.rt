@@ -19,7 +19,7 @@ pub enum Refusal {
 }
 
 impl Refusal {
-    // The refusal's number.
+    // The refusal's number. No entry.
     pub fn number(self) -> u8
         ensures { λ r. ⌜ r ≡ number self ⌝ }
     {

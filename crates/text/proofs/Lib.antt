@@ -1,3 +1,4 @@
 pub mod Writing
 pub mod KeyText
 pub mod ProgramInput
+pub mod Marking

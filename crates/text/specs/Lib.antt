@@ -1,3 +1,4 @@
 pub mod Lines
 pub mod Keys
 pub mod Faults
+pub mod Marks

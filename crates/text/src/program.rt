@@ -2,7 +2,8 @@
 ghost use mathlib.Core.Path.{_≡_};
 ghost use Prim.Native.Nat.{_≤_};
 ghost use lib.ListN.{length, take};
-ghost use Rattle.text.specs.Keys.{KeyPromise, programReads};
+ghost use lib.Seq.{sets};
+ghost use Rattle.text.specs.Keys.{KeyPromise, programKey, programReads};
 use crate::key;
 use records::job::Job;
 
@@ -19,7 +20,7 @@ pub fn input() -> [u8; Job::SIZE * Job::MOST + 1]
 
 // The key of what was read, at the start of the output; it gives the text's length. No entry.
 pub fn key(input: &[u8], output: &mut [u8; key::SIZE]) -> usize
-    ensures { λ r. ⌜ (r ≤ length (now (output .exit))) × KeyPromise (now (input .entry)) 1 4 (take r (now (output .exit))) ⌝ }
+    ensures { λ r. ⌜ (r ≤ length (now (output .exit))) × (now (output .exit) ≡ sets (now (output .entry)) 0 (programKey (now (input .entry)))) × KeyPromise (now (input .entry)) 1 4 (take r (now (output .exit))) ⌝ }
 {
     key::key(input, LOWEST, HIGHEST, output)
 }
