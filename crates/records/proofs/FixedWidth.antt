@@ -18,7 +18,8 @@ use Rattle.records.proofs.Outcomes.{gives}
 
 -- ---- lists of records
 
-flat-snoc : {A : Type 0} (bytes : A → List ℕ) (xs : List A) (a : A) → flat bytes (xs ++ (a ∷ [])) ≡ flat bytes xs ++ bytes a
+-- The bytes of one record more.
+pub flat-snoc : {A : Type 0} (bytes : A → List ℕ) (xs : List A) (a : A) → flat bytes (xs ++ (a ∷ [])) ≡ flat bytes xs ++ bytes a
 unfolding flat
 flat-snoc bytes [] a = append-nil (bytes a)
 flat-snoc bytes (x ∷ xs) a = ap (λ (l : List ℕ). bytes x ++ l) (flat-snoc bytes xs a) ∙ sym (append-assoc (bytes x) (flat bytes xs) (bytes a))

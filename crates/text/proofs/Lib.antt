@@ -2,3 +2,4 @@ pub mod Writing
 pub mod KeyText
 pub mod ProgramInput
 pub mod Marking
+pub mod Tabling

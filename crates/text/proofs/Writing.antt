@@ -9,6 +9,8 @@ use native.Mathlib.Omega.{arith}
 use lib.Dec.{eqb}
 use lib.ListN.{length, getD, take, set, length-append}
 use lib.Seq.{sets, length-sets, take-suc}
+use Rattle.records.specs.Records.{flat}
+use Rattle.records.proofs.FixedWidth.{flat-snoc}
 use Rattle.text.specs.Lines.{rowsTo, usedAfter, Wrote}
 
 sets-append : {A : Type 0} (l : List A) (i : ℕ) (xs ys : List A) → sets l i (xs ++ ys) ≡ sets (sets l i xs) (i + length xs) ys
@@ -44,12 +46,15 @@ limited-to {k} {m} e w = limited m w (omega (arith, w .short))
 pub widened : {k : ℕ} (m : ℕ) {old new : List ℕ} {at r : ℕ} {xs : List ℕ} → Wrote k old new at r xs → k ≤ m → Wrote m old new at r xs
 widened m w h = limited m w (omega (arith, w .short))
 
--- One byte more of a text, and one row more.
+-- One byte more of a text, one row more, and one record more of a table.
 pub text-next : (text : List ℕ) (i : ℕ) → i < length text → take i text ++ (getD text i 0 ∷ []) ≡ take (i + 1) text
 text-next text i h = rw (add-one i) (sym (take-suc text i 0 h))
 
 pub rows-next : (row : ℕ → List ℕ) (i : ℕ) → rowsTo row i ++ row i ≡ rowsTo row (i + 1)
 rows-next row i = rw (add-one i) refl
+
+pub flat-next : {A : Type 0} (bytes : A → List ℕ) (records : List A) (i : ℕ) (blank : A) → i < length records → flat bytes (take i records) ++ bytes (getD records i blank) ≡ flat bytes (take (i + 1) records)
+flat-next bytes records i blank h = rw (add-one i, take-suc records i blank h) (sym (flat-snoc bytes (take i records) (getD records i blank)))
 
 -- Text from the start of a buffer on.
 pub whole : {k : ℕ} {old new : List ℕ} {r : ℕ} {xs : List ℕ} → Wrote k old new 0 r xs → k ≤ length old → (r ≤ length new) × (r ≡ length xs) × (new ≡ sets old 0 xs)

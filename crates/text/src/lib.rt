@@ -1,6 +1,7 @@
-// Texts: the key program's, what is printed of a marked hand-in, and what is said of faulty lines.
+// Texts: the key program's, job lists and configurations, what is printed of a marked hand-in, and what is said of faulty lines.
 mod buffer;
 pub mod fault;
 pub mod key;
 pub mod marks;
 pub mod program;
+pub mod tables;
