@@ -1,7 +1,8 @@
 // Refusals 8 to 11 of settings.
 ghost use mathlib.Core.Path.{_≡_};
-ghost use Prim.Native.Nat.{_≤_, _<_};
+ghost use Prim.Native.Nat.{_≤_, _<_, min};
 ghost use lib.ListN.{take};
+ghost use Rattle.sets.specs.Places.{failing};
 ghost use Rattle.records.specs.Limits.{mostJobs};
 ghost use Rattle.records.specs.Refusals.{answer, verdict};
 ghost use Rattle.configuration.specs.Configuration.{placedLevel, shaped, sharing, levelled, settingOk, allOk, settingTests};
@@ -79,7 +80,7 @@ fn is_levelled(settings: [Setting; Job::MOST], n: usize, setting: Setting) -> bo
 }
 
 // What a setting is held to: refusals 8, 9, 10 and 11.
-pub(crate) enum SettingRule {
+pub enum SettingRule {
     Id,
     Shape,
     Sharing,
@@ -110,6 +111,28 @@ fn setting_ok(
     }
 }
 
+// The place of the first of the first n settings of which the rule does not hold; n where it holds of each. No entry; for n past 8 it
+// takes all 8 settings.
+pub fn first_faulty(
+    rule: SettingRule,
+    jobs: [Job; Job::MOST],
+    settings: [Setting; Job::MOST],
+    n: usize,
+    range: Range,
+) -> usize
+    ensures { λ r. ⌜ r ≡ failing (settingOk rule (min n mostJobs) jobs (range .low) (range .high) settings) (min n mostJobs) ⌝ }
+{
+    let count = Job::at_most(n);
+    let mut i = 0;
+    while i < count {
+        if !setting_ok(rule, jobs, settings, count, range, i) {
+            return i;
+        }
+        i += 1;
+    }
+    count
+}
+
 // Whether the rule holds of each of the first n settings.
 pub(crate) fn all_ok(
     rule: SettingRule,
@@ -120,15 +143,7 @@ pub(crate) fn all_ok(
 ) -> bool
     ensures { λ r. ⌜ r ≡ allOk rule (take n jobs) (range .low) (range .high) (take n settings) ⌝ }
 {
-    let count = Job::at_most(n);
-    let mut i = 0;
-    while i < count {
-        if !setting_ok(rule, jobs, settings, count, range, i) {
-            return false;
-        }
-        i += 1;
-    }
-    true
+    first_faulty(rule, jobs, settings, n, range) == Job::at_most(n)
 }
 
 // Judges the first n settings of a table: refusals 8, 9 and 10.

@@ -1,5 +1,5 @@
 // Settings and configurations: the configuration block and refusals 7 to 11.
 pub mod block;
 mod bytes;
-mod judge;
+pub mod judge;
 pub mod setting;

@@ -67,8 +67,8 @@ digit-range byte = by (leb (digit 0) byte) refl
     by false e f = absurd (false≢true f)
 
 -- A word after digits that stand for n, as a number of at most `limit`.
-abbrev pub numberFrom : ℕ → ℕ → ℕ → List ℕ → WordAnswer
-numberFrom place limit n word = cond (allDigits word) (cond (leb (valueFrom n word) limit) (Number (valueFrom n word)) (Wrong (TooLarge place limit))) (Wrong (NotANumber place))
+abbrev pub numberFrom : ℕ → ℕ → ℕ → ℕ → List ℕ → WordAnswer
+numberFrom place told limit n word = cond (allDigits word) (cond (leb (valueFrom n word) limit) (Number (valueFrom n word)) (Wrong (TooLarge place told))) (Wrong (NotANumber place))
 
 -- Past the limit it does not matter by how much.
 value-capped : (limit a b : ℕ) → min a (limit + 1) ≡ min b (limit + 1) → (word : List ℕ) → min (valueFrom a word) (limit + 1) ≡ min (valueFrom b word) (limit + 1)
@@ -78,25 +78,25 @@ value-capped limit a b e (byte ∷ word) = value-capped limit (a * 10 + (byte - 
     step : (d : ℕ) → min (a * 10 + d) (limit + 1) ≡ min (b * 10 + d) (limit + 1)
     step d = omega arith
 
-pub number-capped : (place limit a b : ℕ) → min a (limit + 1) ≡ min b (limit + 1) → (word : List ℕ) → numberFrom place limit a word ≡ numberFrom place limit b word
-number-capped place limit a b e word = ap (λ (w : WordAnswer). cond (allDigits word) w (Wrong (NotANumber place))) (by (valueFrom a word) (valueFrom b word) (value-capped limit a b e word))
+pub number-capped : (place told limit a b : ℕ) → min a (limit + 1) ≡ min b (limit + 1) → (word : List ℕ) → numberFrom place told limit a word ≡ numberFrom place told limit b word
+number-capped place told limit a b e word = ap (λ (w : WordAnswer). cond (allDigits word) w (Wrong (NotANumber place))) (by (valueFrom a word) (valueFrom b word) (value-capped limit a b e word))
   where
-    by : (x y : ℕ) → min x (limit + 1) ≡ min y (limit + 1) → cond (leb x limit) (Number x) (Wrong (TooLarge place limit)) ≡ cond (leb y limit) (Number y) (Wrong (TooLarge place limit))
+    by : (x y : ℕ) → min x (limit + 1) ≡ min y (limit + 1) → cond (leb x limit) (Number x) (Wrong (TooLarge place told)) ≡ cond (leb y limit) (Number y) (Wrong (TooLarge place told))
     by x y same = elim (decLe x limit) [
-      | yes l ↦ let f : x ≡ y = omega arith in ap (λ (z : ℕ). cond (leb z limit) (Number z) (Wrong (TooLarge place limit))) f
+      | yes l ↦ let f : x ≡ y = omega arith in ap (λ (z : ℕ). cond (leb z limit) (Number z) (Wrong (TooLarge place told))) f
       | no l ↦ let m : limit < x = omega arith in let n : limit < y = omega arith in rw (lt-leb x limit m, lt-leb y limit n)
     ]
 
 -- One byte on.
-pub number-next : (place limit n : ℕ) (word : List ℕ) (i : ℕ) → i < length word → isDigit (getD word i 0) ≡ true
-    → numberFrom place limit n (drop i word) ≡ numberFrom place limit (n * 10 + (getD word i 0 - digit 0)) (drop (i + 1) word)
-number-next place limit n word i h e = rw (add-one i, drop-cons word i 0 h, e)
+pub number-next : (place told limit n : ℕ) (word : List ℕ) (i : ℕ) → i < length word → isDigit (getD word i 0) ≡ true
+    → numberFrom place told limit n (drop i word) ≡ numberFrom place told limit (n * 10 + (getD word i 0 - digit 0)) (drop (i + 1) word)
+number-next place told limit n word i h e = rw (add-one i, drop-cons word i 0 h, e)
 
-pub number-stop : (place limit n : ℕ) (word : List ℕ) (i : ℕ) → i < length word → isDigit (getD word i 0) ≡ false → numberFrom place limit n (drop i word) ≡ Wrong (NotANumber place)
-number-stop place limit n word i h e = rw (drop-cons word i 0 h, e)
+pub number-stop : (place told limit n : ℕ) (word : List ℕ) (i : ℕ) → i < length word → isDigit (getD word i 0) ≡ false → numberFrom place told limit n (drop i word) ≡ Wrong (NotANumber place)
+number-stop place told limit n word i h e = rw (drop-cons word i 0 h, e)
 
-pub number-end : (place limit n : ℕ) (word : List ℕ) (i : ℕ) → length word ≤ i → numberFrom place limit n (drop i word) ≡ cond (leb n limit) (Number n) (Wrong (TooLarge place limit))
-number-end place limit n word i h = rw (drop-of-length-le word h)
+pub number-end : (place told limit n : ℕ) (word : List ℕ) (i : ℕ) → length word ≤ i → numberFrom place told limit n (drop i word) ≡ cond (leb n limit) (Number n) (Wrong (TooLarge place told))
+number-end place told limit n word i h = rw (drop-of-length-le word h)
 
 -- ---- words
 

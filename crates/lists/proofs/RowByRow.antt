@@ -21,7 +21,7 @@ use Rattle.lists.specs.declared.fields.Row.{Row}
 use Rattle.lists.specs.declared.rows.LineAnswer.the-variants.{Skipped}
 use Rattle.lists.specs.declared.rows.RowsRead.{RowsRead}
 use Rattle.lists.specs.Words.{isMark, partsFrom, parts, before, lines, words}
-use Rattle.lists.specs.Rows.{saysRange, rowLine, rangeLine, rowAnswer, readFields, wordsLine, readLine, Rows, Reading, given, faulty, withRow, withRange, withLine, readLines, markSize, rowsIn}
+use Rattle.lists.specs.Rows.{saysRange, saysPlaced, rowLine, rangeLine, rowAnswer, readFields, wordsLine, readLine, Rows, Reading, given, faulty, withRow, withRange, withLine, readLines, markSize, rowsIn}
 use Rattle.lists.proofs.Parsing.{before-take, no-word, next-word}
 
 -- ---- a line by its first word
@@ -40,8 +40,11 @@ module _ (form : Form) (content : List ℕ) (start : ℕ) (found : start ≡ 0 +
     pub line-range : saysRange form word ≡ true → wordsLine form (words content) ≡ rangeLine (rowAnswer (readFields Quanta (words (drop end content))))
     line-range h = ap (wordsLine form) first-word ∙ rw h
 
-    pub line-row : saysRange form word ≡ false → wordsLine form (words content) ≡ rowLine (rowAnswer (readFields form (words content)))
-    line-row h = ap (wordsLine form) first-word ∙ rw h (ap (λ (w : List (List ℕ)). rowLine (rowAnswer (readFields form w))) (sym first-word))
+    pub line-placed : saysRange form word ≡ false → saysPlaced form word ≡ true → wordsLine form (words content) ≡ Skipped
+    line-placed h k = ap (wordsLine form) first-word ∙ rw (h, k)
+
+    pub line-row : saysRange form word ≡ false → saysPlaced form word ≡ false → wordsLine form (words content) ≡ rowLine (rowAnswer (readFields form (words content)))
+    line-row h k = ap (wordsLine form) first-word ∙ rw (h, k) (ap (λ (w : List (List ℕ)). rowLine (rowAnswer (readFields form w))) (sym first-word))
 
 -- ---- one line more
 

@@ -5,7 +5,7 @@ use mathlib.Core.List.{List, [], _∷_, map}
 use mathlib.Core.Option.{Option, none, some}
 use Rattle.sets.specs.Places.{every}
 use Rattle.same_bytes.specs.Same.{sameBytes}
-use Rattle.lists.specs.declared.fault.Fault.the-variants.{NotANumber, TooLarge, JobWords, SettingWords, RangeWords, TooMany, SecondRange}
+use Rattle.lists.specs.declared.fault.Fault.the-variants.{NotANumber, TooLarge, NotAPolicy, JobWords, SettingWords, RangeWords, TooMany, SecondRange}
 use Rattle.lists.specs.declared.fields.Form.{Form}
 use Rattle.lists.specs.declared.fields.Form.the-variants.{Job as JobForm, Setting as SettingForm}
 use Rattle.lists.specs.declared.fields.Row.{Row}
@@ -60,7 +60,7 @@ cases =
     -- `quanta 1 2 3\n`
     ∷ case JobForm (113 ∷ 117 ∷ 97 ∷ 110 ∷ 116 ∷ 97 ∷ 32 ∷ 49 ∷ 32 ∷ 50 ∷ 32 ∷ 51 ∷ 10 ∷ []) (faulty 1 RangeWords)
     -- `quanta 1 256\n`
-    ∷ case JobForm (113 ∷ 117 ∷ 97 ∷ 110 ∷ 116 ∷ 97 ∷ 32 ∷ 49 ∷ 32 ∷ 50 ∷ 53 ∷ 54 ∷ 10 ∷ []) (faulty 1 (TooLarge 3 255))
+    ∷ case JobForm (113 ∷ 117 ∷ 97 ∷ 110 ∷ 116 ∷ 97 ∷ 32 ∷ 49 ∷ 32 ∷ 50 ∷ 53 ∷ 54 ∷ 10 ∷ []) (faulty 1 (TooLarge 3 64))
     -- a word that is not a number
     -- `1 2 5 5\n2 x 5 5\n`
     ∷ case JobForm (49 ∷ 32 ∷ 50 ∷ 32 ∷ 53 ∷ 32 ∷ 53 ∷ 10 ∷ 50 ∷ 32 ∷ 120 ∷ 32 ∷ 53 ∷ 32 ∷ 53 ∷ 10 ∷ []) (faulty 2 (NotANumber 2))
@@ -72,11 +72,11 @@ cases =
     -- `\n256 1 1 1\n`
     ∷ case JobForm (10 ∷ 50 ∷ 53 ∷ 54 ∷ 32 ∷ 49 ∷ 32 ∷ 49 ∷ 32 ∷ 49 ∷ 10 ∷ []) (faulty 2 (TooLarge 1 255))
     -- `1 1 65536 1\n`
-    ∷ case JobForm (49 ∷ 32 ∷ 49 ∷ 32 ∷ 54 ∷ 53 ∷ 53 ∷ 51 ∷ 54 ∷ 32 ∷ 49 ∷ 10 ∷ []) (faulty 1 (TooLarge 3 65535))
+    ∷ case JobForm (49 ∷ 32 ∷ 49 ∷ 32 ∷ 54 ∷ 53 ∷ 53 ∷ 51 ∷ 54 ∷ 32 ∷ 49 ∷ 10 ∷ []) (faulty 1 (TooLarge 3 60000))
     -- `1 1 1 1 256\n`
     ∷ case JobForm (49 ∷ 32 ∷ 49 ∷ 32 ∷ 49 ∷ 32 ∷ 49 ∷ 32 ∷ 50 ∷ 53 ∷ 54 ∷ 10 ∷ []) (faulty 1 (TooLarge 5 255))
     -- `1 1 1 99999999999999999999\n`
-    ∷ case JobForm (49 ∷ 32 ∷ 49 ∷ 32 ∷ 49 ∷ 32 ∷ 57 ∷ 57 ∷ 57 ∷ 57 ∷ 57 ∷ 57 ∷ 57 ∷ 57 ∷ 57 ∷ 57 ∷ 57 ∷ 57 ∷ 57 ∷ 57 ∷ 57 ∷ 57 ∷ 57 ∷ 57 ∷ 57 ∷ 57 ∷ 10 ∷ []) (faulty 1 (TooLarge 4 65535))
+    ∷ case JobForm (49 ∷ 32 ∷ 49 ∷ 32 ∷ 49 ∷ 32 ∷ 57 ∷ 57 ∷ 57 ∷ 57 ∷ 57 ∷ 57 ∷ 57 ∷ 57 ∷ 57 ∷ 57 ∷ 57 ∷ 57 ∷ 57 ∷ 57 ∷ 57 ∷ 57 ∷ 57 ∷ 57 ∷ 57 ∷ 57 ∷ 10 ∷ []) (faulty 1 (TooLarge 4 60000))
     -- neither four numbers nor five
     -- `1 2 3\n`
     ∷ case JobForm (49 ∷ 32 ∷ 50 ∷ 32 ∷ 51 ∷ 10 ∷ []) (faulty 1 JobWords)
@@ -99,17 +99,24 @@ cases =
     -- a configuration: policies by name and by number, and a bound after them
     -- `1 2 rr 3\n2 1 fifo 0 # alone\n3 0 none 0\n4 2 2 1 65535\n`
     ∷ case SettingForm (49 ∷ 32 ∷ 50 ∷ 32 ∷ 114 ∷ 114 ∷ 32 ∷ 51 ∷ 10 ∷ 50 ∷ 32 ∷ 49 ∷ 32 ∷ 102 ∷ 105 ∷ 102 ∷ 111 ∷ 32 ∷ 48 ∷ 32 ∷ 35 ∷ 32 ∷ 97 ∷ 108 ∷ 111 ∷ 110 ∷ 101 ∷ 10 ∷ 51 ∷ 32 ∷ 48 ∷ 32 ∷ 110 ∷ 111 ∷ 110 ∷ 101 ∷ 32 ∷ 48 ∷ 10 ∷ 52 ∷ 32 ∷ 50 ∷ 32 ∷ 50 ∷ 32 ∷ 49 ∷ 32 ∷ 54 ∷ 53 ∷ 53 ∷ 51 ∷ 53 ∷ 10 ∷ []) (read (row 1 2 2 3 0 ∷ row 2 1 1 0 0 ∷ row 3 0 0 0 0 ∷ row 4 2 2 1 65535 ∷ []) (1 ∷ 2 ∷ 3 ∷ 4 ∷ []) none)
-    -- a name where none may stand, another name, and a range, which only a list says
+    -- a key: its bounds and its last line are let by
+    -- `1 2 2 3 8\n2 2 2 1 20\nplaced 2 of 2\n`
+    ∷ case SettingForm (49 ∷ 32 ∷ 50 ∷ 32 ∷ 50 ∷ 32 ∷ 51 ∷ 32 ∷ 56 ∷ 10 ∷ 50 ∷ 32 ∷ 50 ∷ 32 ∷ 50 ∷ 32 ∷ 49 ∷ 32 ∷ 50 ∷ 48 ∷ 10 ∷ 112 ∷ 108 ∷ 97 ∷ 99 ∷ 101 ∷ 100 ∷ 32 ∷ 50 ∷ 32 ∷ 111 ∷ 102 ∷ 32 ∷ 50 ∷ 10 ∷ []) (read (row 1 2 2 3 8 ∷ row 2 2 2 1 20 ∷ []) (1 ∷ 2 ∷ []) none)
+    -- a name where none may stand, another name, a policy that a record does not hold, and a range, which only a list says
     -- `1 fifo 1 0\n`
     ∷ case SettingForm (49 ∷ 32 ∷ 102 ∷ 105 ∷ 102 ∷ 111 ∷ 32 ∷ 49 ∷ 32 ∷ 48 ∷ 10 ∷ []) (faulty 1 (NotANumber 2))
     -- `1 1 FIFO 0\n`
-    ∷ case SettingForm (49 ∷ 32 ∷ 49 ∷ 32 ∷ 70 ∷ 73 ∷ 70 ∷ 79 ∷ 32 ∷ 48 ∷ 10 ∷ []) (faulty 1 (NotANumber 3))
+    ∷ case SettingForm (49 ∷ 32 ∷ 49 ∷ 32 ∷ 70 ∷ 73 ∷ 70 ∷ 79 ∷ 32 ∷ 48 ∷ 10 ∷ []) (faulty 1 NotAPolicy)
+    -- `1 1 256 0\n`
+    ∷ case SettingForm (49 ∷ 32 ∷ 49 ∷ 32 ∷ 50 ∷ 53 ∷ 54 ∷ 32 ∷ 48 ∷ 10 ∷ []) (faulty 1 NotAPolicy)
+    -- `1 256 1 0\n`
+    ∷ case SettingForm (49 ∷ 32 ∷ 50 ∷ 53 ∷ 54 ∷ 32 ∷ 49 ∷ 32 ∷ 48 ∷ 10 ∷ []) (faulty 1 (TooLarge 2 8))
     -- `quanta 1 2\n`
     ∷ case SettingForm (113 ∷ 117 ∷ 97 ∷ 110 ∷ 116 ∷ 97 ∷ 32 ∷ 49 ∷ 32 ∷ 50 ∷ 10 ∷ []) (faulty 1 (NotANumber 1))
     -- `1 1 fifo\n`
     ∷ case SettingForm (49 ∷ 32 ∷ 49 ∷ 32 ∷ 102 ∷ 105 ∷ 102 ∷ 111 ∷ 10 ∷ []) (faulty 1 SettingWords)
     -- `1 1 fifo 256\n`
-    ∷ case SettingForm (49 ∷ 32 ∷ 49 ∷ 32 ∷ 102 ∷ 105 ∷ 102 ∷ 111 ∷ 32 ∷ 50 ∷ 53 ∷ 54 ∷ 10 ∷ []) (faulty 1 (TooLarge 4 255))
+    ∷ case SettingForm (49 ∷ 32 ∷ 49 ∷ 32 ∷ 102 ∷ 105 ∷ 102 ∷ 111 ∷ 32 ∷ 50 ∷ 53 ∷ 54 ∷ 10 ∷ []) (faulty 1 (TooLarge 4 64))
     ∷ []
 
 pub read-cases : map answered cases ≡ map expected cases

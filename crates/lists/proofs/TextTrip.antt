@@ -24,9 +24,9 @@ use Rattle.lists.specs.declared.fields.Form.{Form}
 use Rattle.lists.specs.declared.fields.Form.the-variants.{Job as JobForm, Setting as SettingForm, Quanta as QuantaForm}
 use Rattle.lists.specs.declared.fields.Row.{Row}
 use Rattle.lists.specs.declared.rows.LineAnswer.{LineAnswer}
-use Rattle.lists.specs.declared.rows.LineAnswer.the-variants.{Found, RangeOf}
+use Rattle.lists.specs.declared.rows.LineAnswer.the-variants.{Skipped, Found, RangeOf}
 use Rattle.lists.specs.Words.{tab, carriageReturn, numberSign, isBlank, isMark, isDigit, partsFrom, parts, before, nonEmpty, lines, words, allDigits, valueFrom, numberOf}
-use Rattle.lists.specs.Rows.{Numbers, wrong, fieldsFrom, readFields, rowAnswer, rowLine, rangeLine, noneName, fifoName, roundRobinName, policyOr, wordOf, quantaWord, wordsLine, readLine, Rows, Reading, given, withLine, readLines, markSize, noRows, readText}
+use Rattle.lists.specs.Rows.{Numbers, wrong, fieldsFrom, readFields, rowAnswer, rowLine, rangeLine, noneName, fifoName, roundRobinName, policyOr, wordOf, quantaWord, placedWord, wordsLine, readLine, Rows, Reading, given, withLine, readLines, markSize, noRows, readText}
 use Rattle.lists.specs.Lists.{jobFrom, settingFrom, lineText, delayWords, jobText, policyWord, settingText, listText, configurationText, JobFits, SettingFits, RangeFits, AllFit}
 use Rattle.lists.proofs.Decimal.{decimal-one, decimal-more}
 use Rattle.lists.proofs.Parsing.{digit-range}
@@ -79,9 +79,9 @@ decimal-spells : (n : ℕ) → Spells n (decimal n)
 decimal-spells n = spelled-by (suc n) n (omega arith)
 
 -- What the writer of decimal numbers writes is read back.
-number-back : (place limit n : ℕ) → n ≤ limit → numberOf place limit (decimal n) ≡ Number n
+number-back : (told place limit n : ℕ) → n ≤ limit → numberOf place told limit (decimal n) ≡ Number n
 unfolding numberOf
-number-back place limit n h = let s = decimal-spells n in rw (s .digits, s .value, le-leb n limit h)
+number-back told place limit n h = let s = decimal-spells n in rw (s .digits, s .value, le-leb n limit h)
 
 -- Two texts that differ are told apart.
 other : (a b : List ℕ) → (a ≡ b → ⊥) → sameBytes a b ≡ false
@@ -273,16 +273,16 @@ unfolding wordOf
 job-read id cost period deadline delay fit =
     ap (λ (b : Bool). cond b (rangeLine (rowAnswer (readFields QuantaForm (decimal cost ∷ decimal period ∷ decimal deadline ∷ delayWords delay)))) (rowLine (rowAnswer (readFields JobForm (decimal id ∷ decimal cost ∷ decimal period ∷ decimal deadline ∷ delayWords delay))))) (not-word id quantaWord refl)
     ∙ ap (λ (x : Numbers). rowLine (rowAnswer x))
-    (field-step JobForm [] 255 (65535 ∷ 65535 ∷ 65535 ∷ 255 ∷ []) (decimal id) (decimal cost ∷ decimal period ∷ decimal deadline ∷ delayWords delay) id (number-back 1 255 id (fit .0))
-    ∙ field-step JobForm (id ∷ []) 65535 (65535 ∷ 65535 ∷ 255 ∷ []) (decimal cost) (decimal period ∷ decimal deadline ∷ delayWords delay) cost (number-back 2 65535 cost (fit .2))
-    ∙ field-step JobForm (id ∷ cost ∷ []) 65535 (65535 ∷ 255 ∷ []) (decimal period) (decimal deadline ∷ delayWords delay) period (number-back 3 65535 period (fit .3))
-    ∙ field-step JobForm (id ∷ cost ∷ period ∷ []) 65535 (255 ∷ []) (decimal deadline) (delayWords delay) deadline (number-back 4 65535 deadline (fit .4)))
+    (field-step JobForm [] 255 (65535 ∷ 65535 ∷ 65535 ∷ 255 ∷ []) (decimal id) (decimal cost ∷ decimal period ∷ decimal deadline ∷ delayWords delay) id (number-back 255 1 255 id (fit .0))
+    ∙ field-step JobForm (id ∷ []) 65535 (65535 ∷ 65535 ∷ 255 ∷ []) (decimal cost) (decimal period ∷ decimal deadline ∷ delayWords delay) cost (number-back 60000 2 65535 cost (fit .2))
+    ∙ field-step JobForm (id ∷ cost ∷ []) 65535 (65535 ∷ 255 ∷ []) (decimal period) (decimal deadline ∷ delayWords delay) period (number-back 60000 3 65535 period (fit .3))
+    ∙ field-step JobForm (id ∷ cost ∷ period ∷ []) 65535 (255 ∷ []) (decimal deadline) (delayWords delay) deadline (number-back 60000 4 65535 deadline (fit .4)))
     ∙ last delay (fit .1)
   where
     last : (d : ℕ) → d ≤ 255 → rowLine (rowAnswer (fieldsFrom JobForm (id ∷ cost ∷ period ∷ deadline ∷ []) (255 ∷ []) (delayWords d)))
         ≡ Found (jobRow (record { id = id; delay = d; cost = cost; period = period; deadline = deadline }))
     last zero h = refl
-    last (suc d) h = ap (λ (x : Numbers). rowLine (rowAnswer x)) (field-step JobForm (id ∷ cost ∷ period ∷ deadline ∷ []) 255 [] (decimal (suc d)) [] (suc d) (number-back 5 255 (suc d) h))
+    last (suc d) h = ap (λ (x : Numbers). rowLine (rowAnswer x)) (field-step JobForm (id ∷ cost ∷ period ∷ deadline ∷ []) 255 [] (decimal (suc d)) [] (suc d) (number-back 255 5 255 (suc d) h))
 
 abbrev jobs-written : Written JobForm Job
 jobs-written = record {
@@ -309,7 +309,7 @@ unfolding wordOf
 range-read low high fit =
     ap (λ (b : Bool). cond b (rangeLine (rowAnswer (readFields QuantaForm (decimal low ∷ decimal high ∷ [])))) (rowLine (rowAnswer (readFields JobForm (quantaWord ∷ decimal low ∷ decimal high ∷ []))))) (same-exactly quantaWord quantaWord .1 refl)
     ∙ ap (λ (x : Numbers). rangeLine (rowAnswer x))
-    (field-step QuantaForm [] 255 (255 ∷ []) (decimal low) (decimal high ∷ []) low (number-back 2 255 low (fit .0)) ∙ field-step QuantaForm (low ∷ []) 255 [] (decimal high) [] high (number-back 3 255 high (fit .1)))
+    (field-step QuantaForm [] 255 (255 ∷ []) (decimal low) (decimal high ∷ []) low (number-back 64 2 255 low (fit .0)) ∙ field-step QuantaForm (low ∷ []) 255 [] (decimal high) [] high (number-back 64 3 255 high (fit .1)))
 
 -- What is written of a range, or of none, and of at most 8 jobs whose numbers fit their records is read back to exactly these.
 pub list-back : (range : Option (ℕ × ℕ)) (jobs : List Job) → RangeFits range → AllFit JobFits jobs → length jobs ≤ mostJobs
@@ -341,7 +341,7 @@ list-back (some range) jobs rf fit few =
 abbrev settingRow : Setting → Row
 settingRow setting = record { first = setting .id; second = setting .level; third = setting .policy; fourth = setting .quantum; fifth = 0 }
 
-policy-read : (policy : ℕ) → policy ≤ 255 → policyOr (policyWord policy) (numberOf 3 255 (policyWord policy)) ≡ Number policy
+policy-read : (policy : ℕ) → policy ≤ 255 → policyOr (policyWord policy) (numberOf 3 2 255 (policyWord policy)) ≡ Number policy
 unfolding policyOr
 policy-read zero fit = rw (same-exactly noneName noneName .1 refl)
 policy-read (suc zero) fit = rw (differ, same-exactly fifoName fifoName .1 refl)
@@ -357,17 +357,18 @@ policy-read (suc (suc zero)) fit = rw (first, second, same-exactly roundRobinNam
     second = other roundRobinName fifoName (λ e. false≢true (ap (λ (l : List ℕ). eqb (getD l 0 0) 102) e))
 policy-read (suc (suc (suc policy))) fit =
     let n = suc (suc (suc policy)) in
-    rw (not-word n noneName refl, not-word n fifoName refl, not-word n roundRobinName refl) (number-back 3 255 n fit)
+    rw (not-word n noneName refl, not-word n fifoName refl, not-word n roundRobinName refl, number-back 2 3 255 n fit)
 
 setting-read : (setting : Setting) → SettingFits setting
     → wordsLine SettingForm (decimal (setting .id) ∷ decimal (setting .level) ∷ policyWord (setting .policy) ∷ decimal (setting .quantum) ∷ []) ≡ Found (settingRow setting)
 unfolding wordOf
 setting-read setting fit =
-    ap (λ (x : Numbers). rowLine (rowAnswer x))
-    (field-step SettingForm [] 255 (255 ∷ 255 ∷ 255 ∷ 65535 ∷ []) (decimal (setting .id)) (decimal (setting .level) ∷ policyWord (setting .policy) ∷ decimal (setting .quantum) ∷ []) (setting .id) (number-back 1 255 (setting .id) (fit .0))
-    ∙ field-step SettingForm (setting .id ∷ []) 255 (255 ∷ 255 ∷ 65535 ∷ []) (decimal (setting .level)) (policyWord (setting .policy) ∷ decimal (setting .quantum) ∷ []) (setting .level) (number-back 2 255 (setting .level) (fit .1))
+    ap (λ (b : Bool). cond b Skipped (rowLine (rowAnswer (readFields SettingForm (decimal (setting .id) ∷ decimal (setting .level) ∷ policyWord (setting .policy) ∷ decimal (setting .quantum) ∷ []))))) (not-word (setting .id) placedWord refl)
+    ∙ ap (λ (x : Numbers). rowLine (rowAnswer x))
+    (field-step SettingForm [] 255 (255 ∷ 255 ∷ 255 ∷ 65535 ∷ []) (decimal (setting .id)) (decimal (setting .level) ∷ policyWord (setting .policy) ∷ decimal (setting .quantum) ∷ []) (setting .id) (number-back 255 1 255 (setting .id) (fit .0))
+    ∙ field-step SettingForm (setting .id ∷ []) 255 (255 ∷ 255 ∷ 65535 ∷ []) (decimal (setting .level)) (policyWord (setting .policy) ∷ decimal (setting .quantum) ∷ []) (setting .level) (number-back 8 2 255 (setting .level) (fit .1))
     ∙ field-step SettingForm (setting .id ∷ setting .level ∷ []) 255 (255 ∷ 65535 ∷ []) (policyWord (setting .policy)) (decimal (setting .quantum) ∷ []) (setting .policy) (policy-read (setting .policy) (fit .2))
-    ∙ field-step SettingForm (setting .id ∷ setting .level ∷ setting .policy ∷ []) 255 (65535 ∷ []) (decimal (setting .quantum)) [] (setting .quantum) (number-back 4 255 (setting .quantum) (fit .3)))
+    ∙ field-step SettingForm (setting .id ∷ setting .level ∷ setting .policy ∷ []) 255 (65535 ∷ []) (decimal (setting .quantum)) [] (setting .quantum) (number-back 64 4 255 (setting .quantum) (fit .3)))
 
 abbrev settings-written : Written SettingForm Setting
 settings-written = record {

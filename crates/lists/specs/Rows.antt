@@ -1,16 +1,18 @@
 -- Texts of rows: one row of numbers per line, blanks between, `#` starts a comment. A job list has rows `id cost period deadline delay`, of
 -- which a delay of 0 may be left out, and may say its range in one line `quanta low high`; a configuration has rows `id level policy
--- quantum`, with a policy's name or number, and a number after them, as a key has its bound there, is let by. Assumes nothing.
+-- quantum`, with a policy's name or number, and a number after them, as a key has its bound there, is let by, and so is
+-- the last line of a key. Assumes nothing.
 use Prim.Native.Nat.{ℕ, _+_}
 use mathlib.Core.Bool.{Bool, false, cond}
 use mathlib.Core.List.{List, [], _∷_, _++_}
 use mathlib.Core.Option.{Option, none, some}
 use lib.Dec.{leb, ltb, eqb}
 use lib.ListN.{length, getD, drop, take}
-use Rattle.records.specs.Limits.{mostJobs}
+use Rattle.records.specs.Limits.{mostJobs, longestPeriod, longestDeadline, longestQuantum}
+use Rattle.configuration.specs.Settings.{roundRobin}
 use Rattle.same_bytes.specs.Same.{sameBytes}
 use Rattle.lists.specs.declared.fault.Fault.{Fault}
-use Rattle.lists.specs.declared.fault.Fault.the-variants.{JobWords, SettingWords, RangeWords, TooMany, SecondRange}
+use Rattle.lists.specs.declared.fault.Fault.the-variants.{NotAPolicy, JobWords, SettingWords, RangeWords, TooMany, SecondRange}
 use Rattle.lists.specs.declared.words.Mark.the-variants.{Comment}
 use Rattle.lists.specs.declared.words.WordAnswer.{WordAnswer}
 use Rattle.lists.specs.declared.words.WordAnswer.the-variants.{Number, Wrong}
@@ -51,6 +53,12 @@ placeOf Job i = i + 1
 placeOf Setting i = i + 1
 placeOf Quanta i = i + 2
 
+-- The limits that are told of larger numbers: those of an accepted job, setting or range, where a record could hold more.
+abbrev pub toldOf : Form → List ℕ
+toldOf Job = 255 ∷ longestPeriod ∷ longestPeriod ∷ longestDeadline ∷ 255 ∷ []
+toldOf Setting = 255 ∷ mostJobs ∷ roundRobin ∷ longestQuantum ∷ longestDeadline ∷ []
+toldOf Quanta = longestQuantum ∷ longestQuantum ∷ 0 ∷ 0 ∷ 0 ∷ []
+
 -- A policy may have its name.
 abbrev pub isNamed : Form → ℕ → Bool
 isNamed Job i = false
@@ -67,15 +75,19 @@ fifoName = 102 ∷ 105 ∷ 102 ∷ 111 ∷ []
 abbrev pub roundRobinName : List ℕ
 roundRobinName = 114 ∷ 114 ∷ []
 
--- A policy's number by its name, or what the word is else.
+-- A policy's number by its name, or the number that the word is.
+abbrev pub numberOnly : WordAnswer → WordAnswer
+numberOnly (Number n) = Number n
+numberOnly (Wrong fault) = Wrong NotAPolicy
+
 unfoldable pub policyOr : List ℕ → WordAnswer → WordAnswer
 policyOr word other =
-    cond (sameBytes word noneName) (Number 0) (cond (sameBytes word fifoName) (Number 1) (cond (sameBytes word roundRobinName) (Number 2) other))
+    cond (sameBytes word noneName) (Number 0) (cond (sameBytes word fifoName) (Number 1) (cond (sameBytes word roundRobinName) (Number 2) (numberOnly other)))
 
 -- The word of field i.
 unfoldable pub wordOf : Form → ℕ → ℕ → List ℕ → WordAnswer
 wordOf form i limit word =
-    let number = numberOf (placeOf form i) limit word in
+    let number = numberOf (placeOf form i) (getD (toldOf form) i 0) limit word in
     cond (isNamed form i) (policyOr word number) number
 
 -- The numbers of a line, or what is wrong with it.
@@ -116,6 +128,15 @@ saysRange Job word = sameBytes word quantaWord
 saysRange Setting word = false
 saysRange Quanta word = false
 
+-- `placed`: the first word of a key's last line, which is passed over in a configuration, so that a key is one.
+abbrev pub placedWord : List ℕ
+placedWord = 112 ∷ 108 ∷ 97 ∷ 99 ∷ 101 ∷ 100 ∷ []
+
+abbrev pub saysPlaced : Form → List ℕ → Bool
+saysPlaced Job word = false
+saysPlaced Setting word = sameBytes word placedWord
+saysPlaced Quanta word = false
+
 -- What a line of fields holds.
 abbrev pub rowLine : FieldsAnswer → LineAnswer
 rowLine (Read row) = Found row
@@ -125,11 +146,12 @@ abbrev pub rangeLine : FieldsAnswer → LineAnswer
 rangeLine (Read row) = RangeOf (row .first) (row .second)
 rangeLine (FieldsWrong fault) = LineWrong fault
 
--- A line of these words: without words it is skipped.
+-- A line of these words: without words it is skipped, and so is the last line of a key.
 abbrev pub wordsLine : Form → List (List ℕ) → LineAnswer
 wordsLine form [] = Skipped
 wordsLine form (word ∷ rest) =
-    cond (saysRange form word) (rangeLine (rowAnswer (readFields Quanta rest))) (rowLine (rowAnswer (readFields form (word ∷ rest))))
+    cond (saysRange form word) (rangeLine (rowAnswer (readFields Quanta rest)))
+    (cond (saysPlaced form word) Skipped (rowLine (rowAnswer (readFields form (word ∷ rest)))))
 
 -- A line: from `#` on it is a comment.
 unfoldable pub readLine : Form → List ℕ → LineAnswer

@@ -79,9 +79,9 @@ valueFrom n [] = n
 valueFrom n (byte ∷ word) = valueFrom (n * 10 + (byte - digit 0)) word
 
 -- A word as a number of at most `limit`: its bytes are digits, and what they stand for is not too large. `place` is the word's in its
--- line, counted from 1.
-unfoldable pub numberOf : ℕ → ℕ → List ℕ → WordAnswer
-numberOf place limit word = cond (allDigits word) (cond (leb (valueFrom 0 word) limit) (Number (valueFrom 0 word)) (Wrong (TooLarge place limit))) (Wrong (NotANumber place))
+-- line, counted from 1, and `told` the limit that is told of a number that is too large.
+unfoldable pub numberOf : ℕ → ℕ → ℕ → List ℕ → WordAnswer
+numberOf place told limit word = cond (allDigits word) (cond (leb (valueFrom 0 word) limit) (Number (valueFrom 0 word)) (Wrong (TooLarge place told))) (Wrong (NotANumber place))
 
 -- The fault of a word; TooMany where there is none.
 abbrev pub faultOf : WordAnswer → Fault

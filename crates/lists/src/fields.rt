@@ -1,10 +1,10 @@
 // The fields of a line: as many numbers as its form has, each up to its limit; a policy may have its name.
 ghost use mathlib.Core.Path.{_≡_};
 ghost use Prim.Native.Nat.{_≤_, _<_};
-ghost use lib.ListN.{length, drop};
+ghost use lib.ListN.{length, getD, drop};
 ghost use Rattle.records.specs.Records.{table};
 ghost use Rattle.lists.specs.Words.{words};
-ghost use Rattle.lists.specs.Rows.{limitsOf, neededOf, countFault, placeOf, isNamed, policyOr, wordOf, readFields, rowOf, rowAnswer};
+ghost use Rattle.lists.specs.Rows.{limitsOf, neededOf, countFault, placeOf, toldOf, isNamed, numberOnly, policyOr, wordOf, readFields, rowOf, rowAnswer};
 use crate::fault::Fault;
 use crate::words;
 use crate::words::Mark;
@@ -99,6 +99,25 @@ fn place_of(form: Form, i: usize) -> u8
     }
 }
 
+// The limits that are told of larger numbers: those of an accepted job, setting or range.
+fn told_of(form: Form) -> [u16; MOST]
+    ensures { λ r. ⌜ r ≡ toldOf form ⌝ }
+{
+    match form {
+        Form::Job => [255, 60000, 60000, 60000, 255],
+        Form::Setting => [255, 8, 2, 64, 60000],
+        Form::Quanta => [64, 64, 0, 0, 0],
+    }
+}
+
+fn told_at(form: Form, i: usize) -> u16
+    requires { ⌜ i < 5 ⌝ }
+    ensures { λ r. ⌜ r ≡ getD (toldOf form) i 0 ⌝ }
+{
+    let told = told_of(form);
+    told[i]
+}
+
 fn is_named(form: Form, i: usize) -> bool
     ensures { λ r. ⌜ r ≡ isNamed form i ⌝ }
 {
@@ -109,7 +128,17 @@ fn is_named(form: Form, i: usize) -> bool
     }
 }
 
-// A policy's number by its name, or what the word is else.
+// A policy that is no name is a number.
+fn number_only(other: WordAnswer) -> WordAnswer
+    ensures { λ r. ⌜ r ≡ numberOnly other ⌝ }
+{
+    match other {
+        WordAnswer::Number(number) => WordAnswer::Number(number),
+        WordAnswer::Wrong(_) => WordAnswer::Wrong(Fault::NotAPolicy),
+    }
+}
+
+// A policy's number by its name, or the number that the word is.
 fn policy_or(word: &[u8], other: WordAnswer) -> WordAnswer
     ensures { λ r. ⌜ r ≡ policyOr (now (word .entry)) other ⌝ }
 {
@@ -122,7 +151,7 @@ fn policy_or(word: &[u8], other: WordAnswer) -> WordAnswer
     if same_bytes(word, b"rr") {
         return WordAnswer::Number(2);
     }
-    other
+    number_only(other)
 }
 
 // The word of field i.
@@ -130,7 +159,7 @@ fn read_word(form: Form, i: usize, limit: u16, word: &[u8]) -> WordAnswer
     requires { ⌜ i < 5 ⌝ }
     ensures { λ r. ⌜ r ≡ wordOf form i limit (now (word .entry)) ⌝ }
 {
-    let number = words::read_number(word, place_of(form, i), limit);
+    let number = words::read_number(word, place_of(form, i), told_at(form, i), limit);
     if is_named(form, i) {
         return policy_or(word, number);
     }

@@ -3,7 +3,7 @@ ghost use mathlib.Core.Path.{_≡_};
 ghost use Prim.Native.Nat.{_+_, _≤_};
 ghost use lib.ListN.{length, drop};
 ghost use Rattle.lists.specs.Words.{words};
-ghost use Rattle.lists.specs.Rows.{saysRange, rowLine, rangeLine, wordsLine, readLine, withRow, withRange, withLine, faulty, markSize, rowsIn, rowsOutcome, readText};
+ghost use Rattle.lists.specs.Rows.{saysRange, saysPlaced, rowLine, rangeLine, wordsLine, readLine, withRow, withRange, withLine, faulty, markSize, rowsIn, rowsOutcome, readText};
 use crate::fault::Fault;
 use crate::fields;
 use crate::fields::FieldsAnswer;
@@ -49,6 +49,16 @@ fn says_range(form: Form, word: &[u8]) -> bool
     }
 }
 
+fn says_placed(form: Form, word: &[u8]) -> bool
+    ensures { λ r. ⌜ r ≡ saysPlaced form (now (word .entry)) ⌝ }
+{
+    match form {
+        Form::Job => false,
+        Form::Setting => same_bytes(word, b"placed"),
+        Form::Quanta => false,
+    }
+}
+
 fn row_line(read: FieldsAnswer) -> LineAnswer
     ensures { λ r. ⌜ r ≡ rowLine read ⌝ }
 {
@@ -79,6 +89,9 @@ fn read_content(form: Form, content: &[u8]) -> LineAnswer
     if says_range(form, &content[start..end]) {
         let read = fields::read_fields(Form::Quanta, content, end);
         return range_line(read);
+    }
+    if says_placed(form, &content[start..end]) {
+        return LineAnswer::Skipped;
     }
     let read = fields::read_fields(form, content, 0);
     row_line(read)

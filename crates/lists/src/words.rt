@@ -73,9 +73,9 @@ fn capped(value: u32, limit: u16) -> u32
     if value < most { value } else { most }
 }
 
-// A word as a number of at most `limit`; `place` is the word's in its line.
-pub(crate) fn read_number(word: &[u8], place: u8, limit: u16) -> WordAnswer
-    ensures { λ r. ⌜ r ≡ numberOf place limit (now (word .entry)) ⌝ }
+// A word as a number of at most `limit`; `place` is the word's in its line, `told` the limit that is told of a larger number.
+pub(crate) fn read_number(word: &[u8], place: u8, told: u16, limit: u16) -> WordAnswer
+    ensures { λ r. ⌜ r ≡ numberOf place told limit (now (word .entry)) ⌝ }
 {
     let mut value: u32 = 0;
     let mut i = 0;
@@ -88,7 +88,7 @@ pub(crate) fn read_number(word: &[u8], place: u8, limit: u16) -> WordAnswer
         i += 1;
     }
     if (limit as u32) < value {
-        return WordAnswer::Wrong(Fault::TooLarge(place, limit));
+        return WordAnswer::Wrong(Fault::TooLarge(place, told));
     }
     WordAnswer::Number(value as u16)
 }

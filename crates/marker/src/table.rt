@@ -1,7 +1,7 @@
 // The bounds of tables of jobs and settings, whether these are a configuration or not, and whether each job is served. A count past the
 // tables' size takes all entries.
 ghost use mathlib.Core.Path.{_≡_};
-ghost use Prim.Native.Nat.{_*_, _≤_};
+ghost use Prim.Native.Nat.{_*_, _≤_, min};
 ghost use lib.Dec.{ltb};
 ghost use lib.ListN.{length, getD, take};
 ghost use Rattle.sets.specs.Places.{every};
@@ -39,13 +39,13 @@ pub fn bounds_of(
     bounds
 }
 
-// Whether none of the first n bounds is 0.
-fn none_zero(bounds: [u16; Job::MOST], n: usize) -> bool
-    requires { ⌜ n ≤ mostJobs ⌝ }
-    ensures { λ r. ⌜ r ≡ every (λ i. ltb 0 (getD bounds i 0)) n ⌝ }
+// Whether none of the first n bounds is 0. No entry.
+pub fn none_zero(bounds: [u16; Job::MOST], n: usize) -> bool
+    ensures { λ r. ⌜ r ≡ every (λ i. ltb 0 (getD bounds i 0)) (min n mostJobs) ⌝ }
 {
+    let count = Job::at_most(n);
     let mut i = 0;
-    while i < n {
+    while i < count {
         if bounds[i] == 0 {
             return false;
         }
@@ -58,7 +58,7 @@ fn none_zero(bounds: [u16; Job::MOST], n: usize) -> bool
 pub fn all_served(jobs: [Job; Job::MOST], settings: [Setting; Job::MOST], n: usize) -> bool
     ensures { λ r. ⌜ r ≡ allServed (take n jobs) (take n settings) ⌝ }
 {
-    none_zero(bounds_of(jobs, settings, n), Job::at_most(n))
+    none_zero(bounds_of(jobs, settings, n), n)
 }
 
 // Writes the bounds of n jobs to the output, and gives them.

@@ -1,7 +1,7 @@
 // Refusals 1, 2, 3 and 5 of job blocks and tables, and 6 after them.
 ghost use mathlib.Core.Path.{_≡_};
-ghost use Prim.Native.Nat.{_≤_};
-ghost use Rattle.sets.specs.Places.{every};
+ghost use Prim.Native.Nat.{_≤_, min};
+ghost use Rattle.sets.specs.Places.{every, failing};
 ghost use Rattle.records.specs.Limits.{mostJobs};
 ghost use Rattle.records.specs.Refusals.{verdict, answer};
 ghost use Rattle.records.specs.Jobs.{jobOk, jobOkAt, jobTests, sizeTests, tableTests};
@@ -30,22 +30,31 @@ fn job_ok(rule: JobRule, before: u8, job: Job) -> bool
     }
 }
 
+// The place of the first of the first n jobs of a table of which the rule does not hold; n where it holds of each. No entry; for n past 8
+// it takes all 8 jobs.
+pub fn first_faulty(rule: JobRule, table: [Job; Job::MOST], n: usize) -> usize
+    ensures { λ r. ⌜ r ≡ failing (jobOkAt rule table) (min n mostJobs) ⌝ }
+{
+    let count = Job::at_most(n);
+    let mut before: u8 = 0;
+    let mut i = 0;
+    while i < count {
+        let job = table[i];
+        if !job_ok(rule, before, job) {
+            return i;
+        }
+        before = job.id;
+        i += 1;
+    }
+    count
+}
+
 // Whether the rule holds of each of the first n jobs of a table.
 fn all_ok(rule: JobRule, table: [Job; Job::MOST], n: usize) -> bool
     requires { ⌜ n ≤ mostJobs ⌝ }
     ensures { λ r. ⌜ r ≡ every (jobOkAt rule table) n ⌝ }
 {
-    let mut before: u8 = 0;
-    let mut i = 0;
-    while i < n {
-        let job = table[i];
-        if !job_ok(rule, before, job) {
-            return false;
-        }
-        before = job.id;
-        i += 1;
-    }
-    true
+    first_faulty(rule, table, n) == n
 }
 
 // Judges the first n jobs of a table: refusals 2, 3 and 5.

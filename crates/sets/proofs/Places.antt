@@ -10,7 +10,9 @@ use native.Mathlib.Decide.{ℕ-discrete, decLe}
 use native.Mathlib.Omega.{arith}
 use lib.ListN.{length, getD, length-append, List·getD-append}
 use lib.Seq.{getD-at}
-use Rattle.sets.specs.Places.{every, sum, sumOver, count, listOf}
+use lib.Dec.{eqb}
+use borrow.Author.Tests.{eq-eqb, ne-eqb}
+use Rattle.sets.specs.Places.{every, failing, sum, sumOver, count, listOf}
 use Rattle.sets.specs.Sets.{Set, Sub}
 
 -- ---- tests at every place
@@ -70,6 +72,57 @@ fails-at test (suc n) = go (test n) refl (fails-at test n)
     go false e r = inr (n, omega arith, e)
     go true e (inl h) = inl (λ i l. elim (ℕ-discrete i n) [ yes g ↦ rw g e | no g ↦ h i (omega arith) ])
     go true e (inr w) = inr (w .0, omega arith, w .2)
+
+-- ---- the first place at which a test fails
+
+pub failing-within : (test : Set) (n : ℕ) → failing test n ≤ n
+unfolding failing
+failing-within test zero = omega arith
+failing-within test (suc n) = by (failing (λ i. test (suc i)) n) (failing-within (λ i. test (suc i)) n) (test 0)
+  where
+    by : (m : ℕ) → m ≤ n → (b : Bool) → cond b (suc m) 0 ≤ suc n
+    by m h true = omega arith
+    by m h false = omega arith
+
+-- It is the first: the test passes at each place before it, and fails there.
+stops : (test : Set) (n i : ℕ) → i < n → ((j : ℕ) → j < i → test j ≡ true) → test i ≡ false → failing test n ≡ i
+unfolding failing
+stops test zero i l h f = absurd (omega arith)
+stops test (suc n) zero l h f = rw f refl
+stops test (suc n) (suc i) l h f = rw (h 0 (omega arith)) (ap suc (stops (λ j. test (suc j)) n i (omega arith) (λ j g. h (suc j) (omega arith)) f))
+
+pub failing-stop : (test : Set) (n i : ℕ) → i < n → every test i ≡ true → test i ≡ false → failing test n ≡ i
+failing-stop test n i l e f = stops test n i l (every-at test i e) f
+
+none-stops : (test : Set) (n : ℕ) → ((j : ℕ) → j < n → test j ≡ true) → failing test n ≡ n
+unfolding failing
+none-stops test zero h = refl
+none-stops test (suc n) h = rw (h 0 (omega arith)) (ap suc (none-stops (λ j. test (suc j)) n (λ j g. h (suc j) (omega arith))))
+
+pub failing-none : (test : Set) (n : ℕ) → every test n ≡ true → failing test n ≡ n
+failing-none test n e = none-stops test n (every-at test n e)
+
+passes-before : (test : Set) (n : ℕ) → failing test n ≡ n → (i : ℕ) → i < n → test i ≡ true
+unfolding failing
+passes-before test zero g i l = absurd (omega arith)
+passes-before test (suc n) g i l = at (test 0) refl (passes-before (λ j. test (suc j)) n) i l
+  where
+    at : (b : Bool) → test 0 ≡ b → (failing (λ j. test (suc j)) n ≡ n → (i : ℕ) → i < n → test (suc i) ≡ true) → (i : ℕ) → i < suc n → test i ≡ true
+    at true e later zero l = e
+    at true e later (suc i) l =
+        let h : suc (failing (λ j. test (suc j)) n) ≡ suc n = sym (ap (λ (b : Bool). cond b (suc (failing (λ j. test (suc j)) n)) 0) e) ∙ g in
+        later (omega (arith, h)) i (omega arith)
+    at false e later i l =
+        let h : 0 ≡ suc n = sym (ap (λ (b : Bool). cond b (suc (failing (λ j. test (suc j)) n)) 0) e) ∙ g in
+        absurd (omega (arith, h))
+
+-- Each place passes exactly if there is none that fails.
+pub every-failing : (test : Set) (n : ℕ) → every test n ≡ eqb (failing test n) n
+every-failing test n = by (every test n) refl
+  where
+    by : (b : Bool) → every test n ≡ b → b ≡ eqb (failing test n) n
+    by true e = sym (eq-eqb (failing test n) n (failing-none test n e))
+    by false e = sym (ne-eqb (failing test n) n (λ g. false≢true (sym e ∙ every-of test n (passes-before test n g))))
 
 -- ---- sums
 

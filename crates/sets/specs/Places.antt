@@ -8,6 +8,11 @@ unfoldable pub every : (ℕ → Bool) → ℕ → Bool
 every test zero = true
 every test (suc n) = every test n && test n
 
+-- The first place below n at which the test fails; n where there is none.
+unfoldable pub failing : (ℕ → Bool) → ℕ → ℕ
+failing test zero = 0
+failing test (suc n) = cond (test 0) (suc (failing (λ i. test (suc i)) n)) 0
+
 -- The sum of f over the places below n.
 unfoldable pub sum : (ℕ → ℕ) → ℕ → ℕ
 sum f zero = 0

@@ -1,10 +1,13 @@
 -- The text made of a plan's tables is the key. Assumes nothing.
 use Prim.Native.Nat.{ℕ, zero, suc, _+_, _^_, _≤_, _<_}
 use mathlib.Core.Path.{_≡_, refl, sym, ap, ap₂, subst, _∙_}
+use mathlib.Core.Bool.{Bool}
 use mathlib.Core.List.{List, [], _∷_, _++_}
 use native.Mathlib.Omega.{arith}
+use lib.Dec.{eqb}
 use lib.ListN.{length, getD, take}
 use lib.Seq.{sets, length-sets, sets-eq, getD-take, take-at}
+use Rattle.sets.specs.Places.{count}
 use Rattle.sets.specs.Sets.{has, size}
 use Rattle.sets.proofs.Places.{count-same}
 use Rattle.sets.proofs.Parts.{size-count}
@@ -31,12 +34,16 @@ use Rattle.assignment.proofs.Planned.{placed-less}
 use Rattle.planner.specs.declared.table.TablePlan.{TablePlan}
 use Rattle.planner.specs.Plans.{planIn, planned, TablePromise}
 use Rattle.planner.proofs.Holding.{plan-held}
-use Rattle.text.specs.Lines.{rowsTo}
-use Rattle.text.specs.Keys.{jobLine, lastLine, keyText, refusedText, keyOr, keyOf, KeyPromise, tableText}
+use Rattle.text.specs.Keys.{jobLine, lastLine, keyText, refusedText, keyOr, keyOf, keyAnswer, KeyPromise, tableText}
+use Rattle.text.proofs.Writing.{rows-same}
 
-rows-same : (row row′ : ℕ → List ℕ) (n : ℕ) → ((k : ℕ) → k < n → row k ≡ row′ k) → rowsTo row n ≡ rowsTo row′ n
-rows-same row row′ zero h = refl
-rows-same row row′ (suc n) h = ap₂ _++_ (rows-same row row′ n (λ k l. h k (omega arith))) (h n (omega arith))
+-- As many jobs are placed as the plan's set has.
+abbrev placedOf : ℕ → List Setting → ℕ
+placedOf n settings = count n (isPlaced settings)
+
+placed-count : (jobs : List Job) (low high : ℕ) (p : Plan) → Guarantee jobs low high p → p .placed < 2 ^ length jobs → size (p .placed) ≡ placedOf (length jobs) (p .settings)
+placed-count jobs low high p guaranteed less =
+    size-count (length jobs) (p .placed) less ∙ count-same (length jobs) (has (p .placed)) (isPlaced (p .settings)) (guaranteed .placed)
 
 -- Tables that begin with a plan of n jobs.
 made : (jobs : List Job) (low high : ℕ) (p : Plan) → Guarantee jobs low high p → p .placed < 2 ^ length jobs → (n : ℕ) → length jobs ≡ n → (r : TablePlan) → planIn n r ≡ p
@@ -51,8 +58,7 @@ made jobs low high p guaranteed less n counted r is =
     (rows-same (jobLine (r .settings) (r .bounds)) (jobLine (p .settings) (p .bounds)) n
     (λ k l. ap₂ (λ (s : Setting) (b : ℕ). jobLine (s ∷ []) (b ∷ []) 0) (setting k l) (bound k l)))
     (ap (λ (x : Plan). lastLine (size (x .placed)) n) is
-    ∙ ap (λ (m : ℕ). lastLine m n)
-    (size-count n (p .placed) (subst (λ (m : ℕ). p .placed < 2 ^ m) counted less) ∙ count-same n (has (p .placed)) (isPlaced (p .settings)) (λ k l. guaranteed .placed k (omega (arith, counted)))))
+    ∙ ap (λ (m : ℕ). lastLine m n) (placed-count jobs low high p guaranteed less ∙ ap (λ (m : ℕ). placedOf m (p .settings)) counted))
     ∙ ap (λ (m : ℕ). keyText m p) (sym counted)
 
 -- ---- what the answers say of the text
@@ -65,6 +71,12 @@ module _ (jobs : List ℕ) (low high : ℕ) (call : Call) (asks : asked call ≡
       let told = sym asks ∙ ap (λ (x : Counted). handed x (λ n. (n, (take n (call .table), call .range)))) e in
       sym (ap (λ (x : Answer (Unit {0}) × Unit {0}). keyOr (x .0) (keyText (length (jobList jobs)) (plan (jobList jobs) low high)))
       (refuses-alike (callTests jobs low high) (question jobs low high) tt tt tt tt tt (number refusal) told))
+
+  pub answer-refused : (refusal : Refusal) → call .answer ≡ Refused refusal → refused (number refusal) ≡ keyAnswer jobs low high
+  unfolding keyAnswer
+  answer-refused refusal e =
+      let told = sym asks ∙ ap (λ (x : Counted). handed x (λ n. (n, (take n (call .table), call .range)))) e in
+      sym (ap (λ (x : Answer Bool × Unit {0}). x .0) (refuses-alike (callTests jobs low high) (question jobs low high) tt tt _ tt tt (number refusal) told))
 
   -- A call that is accepted: its jobs are planned, and the key is made of the plan's tables.
   module _ (n : ℕ) (count : call .answer ≡ Count n) (r : TablePlan) (promised : TablePromise (call .table) n (call .range) (planned r)) where
@@ -99,17 +111,30 @@ module _ (jobs : List ℕ) (low high : ℕ) (call : Call) (asks : asked call ≡
       pub key-few : m ≤ mostJobs
       key-few = omega (arith, all, known .few)
 
+      sized : length list ≡ m
+      sized = ap length (known .list) ∙ jobs-listed jobs ∙ sym (known .count) ∙ sym all
+
+      less : own .placed < 2 ^ length list
+      less = placed-less list (omega (arith, sized, key-few)) (call .range .low) (call .range .high)
+
+      called : Accepts (callTests jobs low high)
+      called = accepts-both (blockTests jobs) (rangeTests low high) (known .block) (known .allowed)
+
+      pub answer-given : given (eqb (size (r .placed)) m) ≡ keyAnswer jobs low high
+      unfolding keyAnswer
+      answer-given =
+          let taken : r .placed ≡ own .placed = ap (λ (x : ℕ × Plan). x .1 .placed) is in
+          ap (λ (k : ℕ). given (eqb k m)) (ap size taken ∙ placed-count list (call .range .low) (call .range .high) own (promised .guarantee own told) less)
+          ∙ ap (λ (k : ℕ). given (eqb (placedOf (length list) (own .settings)) k)) (sym sized)
+          ∙ ap₂ (λ (l : List Job) (x : Range). given (eqb (placedOf (length l) (plan l (x .low) (x .high) .settings)) (length l))) (known .list) (known .range)
+          ∙ sym (ap (λ (x : Answer Bool × Unit {0}). x .0) (accepts _ tt tt (callTests jobs low high) called))
+
       pub key-text : tableText (r .settings) (r .bounds) (size (r .placed)) m ≡ keyOf jobs low high
       unfolding keyOf
       key-text =
-          let sized : length list ≡ m = ap length (known .list) ∙ jobs-listed jobs ∙ sym (known .count) ∙ sym all in
-          made list (call .range .low) (call .range .high) own (promised .guarantee own told) (placed-less list (omega (arith, sized, key-few)) (call .range .low) (call .range .high)) m sized r (ap (λ (x : ℕ × Plan). x .1) is)
+          made list (call .range .low) (call .range .high) own (promised .guarantee own told) less m sized r (ap (λ (x : ℕ × Plan). x .1) is)
           ∙ ap₂ (λ (l : List Job) (x : Range). keyText (length l) (plan l (x .low) (x .high))) (known .list) (known .range)
           ∙ sym (ap (λ (x : Answer (Unit {0}) × Unit {0}). keyOr (x .0) (keyText (length (jobList jobs)) (plan (jobList jobs) low high))) (accepts tt tt tt (callTests jobs low high) called))
-        where
-          called : Accepts (callTests jobs low high)
-          called = accepts-both (blockTests jobs) (rangeTests low high) (known .block) (known .allowed)
-
 -- ---- the promise
 
 -- Of a text that fills a buffer from its start.

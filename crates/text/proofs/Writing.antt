@@ -1,6 +1,6 @@
 -- Laws of text written to a buffer, part after part. Assumes nothing.
-use Prim.Native.Nat.{ℕ, suc, _+_, _≤_, _<_}
-use mathlib.Core.Path.{_≡_, refl, sym, ap, subst, _∙_}
+use Prim.Native.Nat.{ℕ, zero, suc, _+_, _≤_, _<_}
+use mathlib.Core.Path.{_≡_, refl, sym, ap, ap₂, subst, _∙_}
 use mathlib.Core.Bool.{Bool, true, false, cond}
 use mathlib.Core.List.{List, [], _∷_, _++_}
 use native.Mathlib.Nat.{add-zero, add-suc, suc-add, add-assoc, zero-add}
@@ -49,6 +49,10 @@ widened m w h = limited m w (omega (arith, w .short))
 -- One byte more of a text, one row more, and one record more of a table.
 pub text-next : (text : List ℕ) (i : ℕ) → i < length text → take i text ++ (getD text i 0 ∷ []) ≡ take (i + 1) text
 text-next text i h = rw (add-one i) (sym (take-suc text i 0 h))
+
+pub rows-same : (row row′ : ℕ → List ℕ) (n : ℕ) → ((k : ℕ) → k < n → row k ≡ row′ k) → rowsTo row n ≡ rowsTo row′ n
+rows-same row row′ zero h = refl
+rows-same row row′ (suc n) h = ap₂ _++_ (rows-same row row′ n (λ k l. h k (omega arith))) (h n (omega arith))
 
 pub rows-next : (row : ℕ → List ℕ) (i : ℕ) → rowsTo row i ++ row i ≡ rowsTo row (i + 1)
 rows-next row i = rw (add-one i) refl

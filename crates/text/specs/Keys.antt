@@ -1,7 +1,9 @@
 -- The key program's text (01, "Worked exam lists", at its end). Assumes nothing.
 use Prim.Native.Nat.{ℕ, _+_, _*_}
 use mathlib.Core.Path.{_≡_}
+use mathlib.Core.Bool.{Bool}
 use mathlib.Core.List.{List, [], _∷_, _++_}
+use lib.Dec.{eqb}
 use lib.ListN.{length, getD}
 use Rattle.sets.specs.Places.{count}
 use Rattle.records.specs.Limits.{mostJobs}
@@ -39,6 +41,12 @@ keyOr (given v) text = text
 -- The text for a job block and a range, with their refusals.
 unfoldable pub keyOf : List ℕ → ℕ → ℕ → List ℕ
 keyOf jobs low high = keyOr (answer (callTests jobs low high) tt) (keyText (length (jobList jobs)) (plan (jobList jobs) low high))
+
+-- Whether each job of an accepted call is placed.
+unfoldable pub keyAnswer : List ℕ → ℕ → ℕ → Answer Bool
+keyAnswer jobs low high =
+    let n = length (jobList jobs) in
+    answer (callTests jobs low high) (eqb (count n (isPlaced (plan (jobList jobs) low high .settings))) n)
 
 -- What key promises of the text that it writes: it is the key, and where the call is accepted it is that of a plan of which demand 3 is
 -- said (planner/specs/Plans): its configuration block is read and marked as the text tells.

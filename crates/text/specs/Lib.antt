@@ -1,4 +1,6 @@
 pub mod Lines
+pub mod Answers
 pub mod Keys
 pub mod Faults
 pub mod Marks
+pub mod Refusals

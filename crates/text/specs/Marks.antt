@@ -1,14 +1,20 @@
--- What is printed of a hand-in that is marked. Assumes nothing.
+-- What is printed of a hand-in that is marked, and of the bounds of a configuration. Assumes nothing.
 use Prim.Native.Nat.{ℕ}
-use mathlib.Core.Bool.{Bool, cond, not}
+use mathlib.Core.Bool.{Bool, cond}
 use mathlib.Core.List.{List, [], _∷_, _++_}
-use lib.Dec.{eqb}
-use lib.ListN.{getD}
+use lib.Dec.{eqb, ltb}
+use lib.ListN.{length, getD}
+use lib.Seq.{sets}
 use Rattle.sets.specs.Places.{every}
-use Rattle.records.specs.Jobs.{jobAt}
+use Rattle.records.specs.Refusals.{Answer, outcome}
+use Rattle.records.specs.Jobs.{jobAt, jobList}
+use Rattle.records.specs.Calls.{callTests}
 use Rattle.records.specs.declared.job.Job.{Job}
+use Rattle.configuration.specs.Blocks.{settingsOf, recordTests, handInTests}
+use Rattle.marker.specs.Bounds.{boundsOf, allServed, passes}
 use Rattle.lists.specs.Decimals.{space, lineFeed, decimal}
 use Rattle.text.specs.Lines.{rowsTo, filled}
+use Rattle.text.specs.Keys.{jobLine}
 
 -- The line of the job at place k: `job 1: bound 8, deadline 8`, or `job 2: no bound up to its deadline 22`.
 abbrev pub markLine : List Job → List ℕ → ℕ → List ℕ
@@ -25,9 +31,9 @@ overText jobs bounds k = cond (eqb (getD bounds k 0) 0) (space ∷ decimal (jobA
 abbrev pub failsLine : ℕ → List Job → List ℕ → List ℕ
 failsLine n jobs bounds = (102 ∷ 97 ∷ 105 ∷ 108 ∷ 115 ∷ 58 ∷ []) ++ (rowsTo (overText jobs bounds) n ++ (lineFeed ∷ []))
 
--- Each of n jobs has a bound.
+-- None of n bounds is 0.
 abbrev pub noneOver : ℕ → List ℕ → Bool
-noneOver n bounds = every (λ k. not (eqb (getD bounds k 0) 0)) n
+noneOver n bounds = every (λ k. ltb 0 (getD bounds k 0)) n
 
 -- `passes`, or which jobs have no bound.
 abbrev pub verdictLine : ℕ → List Job → List ℕ → List ℕ
@@ -36,3 +42,33 @@ verdictLine n jobs bounds = cond (noneOver n bounds) (112 ∷ 97 ∷ 115 ∷ 115
 -- All that is printed of n jobs with their bounds.
 unfoldable pub marksText : ℕ → List Job → List ℕ → List ℕ
 marksText n jobs bounds = rowsTo (markLine jobs bounds) n ++ verdictLine n jobs bounds
+
+-- ---- the outcomes of marks and of bounds
+
+-- The jobs and the bounds of a call; the verdict's line begins after the jobs' lines.
+abbrev pub marksBounds : List ℕ → List ℕ → List ℕ
+marksBounds jobs configuration = boundsOf (jobList jobs) (settingsOf jobs configuration)
+
+abbrev pub marksOf : List ℕ → List ℕ → List ℕ
+marksOf jobs configuration = marksText (length (jobList jobs)) (jobList jobs) (marksBounds jobs configuration)
+
+abbrev pub marksLast : List ℕ → List ℕ → ℕ
+marksLast jobs configuration = length (rowsTo (markLine (jobList jobs) (marksBounds jobs configuration)) (length (jobList jobs)))
+
+-- Refusals 1 to 11, whether the configuration passes, and the output with the text.
+unfoldable pub marksOutcome : List ℕ → ℕ → ℕ → List ℕ → List ℕ → Answer (Bool × (ℕ × ℕ)) × List ℕ
+marksOutcome jobs low high configuration output =
+    let text = marksOf jobs configuration in
+    outcome (callTests jobs low high ++ (handInTests (jobList jobs) low high configuration ++ []))
+    (passes (jobList jobs) (settingsOf jobs configuration), (marksLast jobs configuration, length text)) (sets output 0 text) output
+
+-- The lines of a configuration as a key has them, full or not: id, level, policy, quantum and bound.
+abbrev pub boundsText : List ℕ → List ℕ → List ℕ
+boundsText jobs configuration = rowsTo (jobLine (settingsOf jobs configuration) (marksBounds jobs configuration)) (length (jobList jobs))
+
+-- Refusals 1 to 10, whether each job is served, and the output with the text, all of which are the jobs' lines.
+unfoldable pub boundsTold : List ℕ → ℕ → ℕ → List ℕ → List ℕ → Answer (Bool × (ℕ × ℕ)) × List ℕ
+boundsTold jobs low high configuration output =
+    let text = boundsText jobs configuration in
+    outcome (callTests jobs low high ++ (recordTests (jobList jobs) low high configuration ++ []))
+    (allServed (jobList jobs) (settingsOf jobs configuration), (length text, length text)) (sets output 0 text) output

@@ -32,6 +32,14 @@ fn put_message(output: &mut [u8], at: usize, fault: Fault) -> usize
                 [place as u32, limit as u32, 0, 0],
             )
         }
+        Fault::NotAPolicy => {
+            buffer::put_filled(
+                output,
+                at,
+                b"the policy is none of none, fifo and rr, and no number",
+                [0u32; 4],
+            )
+        }
         Fault::JobWords => {
             buffer::put_filled(
                 output,

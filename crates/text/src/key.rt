@@ -5,7 +5,10 @@ ghost use lib.ListN.{length, take};
 ghost use lib.Seq.{sets};
 ghost use Rattle.records.specs.Limits.{mostJobs};
 ghost use Rattle.text.specs.Lines.{line, rowsTo, Wrote};
-ghost use Rattle.text.specs.Keys.{jobLine, tableText, lastLine, refusedText, keyOf, KeyPromise};
+ghost use Rattle.text.specs.Answers.{answered};
+ghost use Rattle.text.specs.Keys.{jobLine, tableText, lastLine, refusedText, keyOf, keyAnswer, KeyPromise};
+use crate::answer;
+use crate::answer::Answered;
 use crate::buffer;
 use configuration::setting::Setting;
 use records::job::Job;
@@ -59,7 +62,7 @@ fn put_job(
 }
 
 // The lines of n jobs, from the start of the output on.
-fn put_jobs(
+pub(crate) fn put_jobs(
     output: &mut [u8],
     settings: [Setting; Job::MOST],
     bounds: [u16; Job::MOST],
@@ -114,16 +117,26 @@ fn put_refused(output: &mut [u8], number: u8) -> usize
     buffer::put_byte(output, after_number, b'\n')
 }
 
-// The text for a job block and a range, at the start of the output; it gives the text's length. It is made of the plan's tables: the
+// The answer beside a key, and the key's length.
+pub struct Keyed {
+    pub answer: Answered,
+    pub length: usize,
+}
+
+// The text for a job block and a range, at the start of the output, and whether each job is placed. It is made of the plan's tables: the
 // numbers stand there as they are printed, while the entry's outputs would have to be read again.
-pub fn key(jobs: &[u8], low: u8, high: u8, output: &mut [u8; SIZE]) -> usize
-    ensures { λ r. ⌜ (r ≤ length (now (output .exit))) × (now (output .exit) ≡ sets (now (output .entry)) 0 (keyOf (now (jobs .entry)) low high)) × KeyPromise (now (jobs .entry)) low high (take r (now (output .exit))) ⌝ }
+pub fn answer_key(jobs: &[u8], low: u8, high: u8, output: &mut [u8; SIZE]) -> Keyed
+    ensures { λ r. ⌜ (r .length ≤ length (now (output .exit))) × (now (output .exit) ≡ sets (now (output .entry)) 0 (keyOf (now (jobs .entry)) low high)) × KeyPromise (now (jobs .entry)) low high (take (r .length) (now (output .exit))) × (answered (r .answer) ≡ keyAnswer (now (jobs .entry)) low high) ⌝ }
 {
     let call = records::call::read_call(jobs, low, high);
     let answer = call.answer;
     let Counted::Count(n) = answer else {
         let refusal = records::refusal::refusal_of(answer);
-        return put_refused(output, refusal.number());
+        let length = put_refused(output, refusal.number());
+        return Keyed {
+            answer: Answered::Refused(refusal),
+            length,
+        };
     };
     let table = call.table;
     let range = call.range;
@@ -133,8 +146,27 @@ pub fn key(jobs: &[u8], low: u8, high: u8, output: &mut [u8; SIZE]) -> usize
         Counted::Count(count) => {
             let settings = plan.settings;
             let bounds = plan.bounds;
-            put_key(output, settings, bounds, sets::size(plan.placed), count)
+            let placed = sets::size(plan.placed);
+            let length = put_key(output, settings, bounds, placed, count);
+            Keyed {
+                answer: answer::yes_or_no(placed as usize == count),
+                length,
+            }
         }
-        Counted::Refused(refusal) => put_refused(output, refusal.number()),
+        Counted::Refused(refusal) => {
+            let length = put_refused(output, refusal.number());
+            Keyed {
+                answer: Answered::Refused(refusal),
+                length,
+            }
+        }
     }
+}
+
+// The same without the answer; it gives the text's length.
+pub fn key(jobs: &[u8], low: u8, high: u8, output: &mut [u8; SIZE]) -> usize
+    ensures { λ r. ⌜ (r ≤ length (now (output .exit))) × (now (output .exit) ≡ sets (now (output .entry)) 0 (keyOf (now (jobs .entry)) low high)) × KeyPromise (now (jobs .entry)) low high (take r (now (output .exit))) ⌝ }
+{
+    let keyed = answer_key(jobs, low, high, output);
+    keyed.length
 }

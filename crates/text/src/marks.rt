@@ -1,13 +1,20 @@
-// What is printed of a hand-in that is marked: a line per job, and whether it passes.
+// What is printed of a hand-in that is marked: a line per job, and whether it passes; and the bounds of a configuration, in a key's lines.
 ghost use mathlib.Core.Path.{_≡_};
-ghost use Prim.Native.Nat.{_+_, _≤_, _<_, min};
+ghost use Prim.Native.Nat.{_+_, _≤_, _<_};
 ghost use lib.ListN.{length};
-ghost use lib.Seq.{sets};
 ghost use Rattle.records.specs.Limits.{mostJobs};
 ghost use Rattle.text.specs.Lines.{rowsTo, Wrote};
-ghost use Rattle.text.specs.Marks.{markLine, overText, noneOver, verdictLine, marksText};
+ghost use Rattle.records.specs.Refusals.{given};
+ghost use Rattle.text.specs.Answers.{told};
+ghost use Rattle.text.specs.Keys.{jobLine};
+ghost use Rattle.text.specs.Marks.{markLine, overText, noneOver, verdictLine, marksText, marksOutcome, boundsTold};
+use crate::answer;
+use crate::answer::Told;
 use crate::buffer;
+use crate::key;
+use configuration::setting::Setting;
 use records::job::Job;
+use records::refusal::Counted;
 
 // The size of a buffer that holds what is printed of any jobs.
 pub const SIZE: usize = 3056;
@@ -95,20 +102,6 @@ fn put_overs(
     at
 }
 
-fn none_over(bounds: [u16; Job::MOST], n: usize) -> bool
-    requires { ⌜ n ≤ mostJobs ⌝ }
-    ensures { λ r. ⌜ r ≡ noneOver n bounds ⌝ }
-{
-    let mut k = 0;
-    while k < n {
-        if bounds[k] == 0 {
-            return false;
-        }
-        k += 1;
-    }
-    true
-}
-
 fn put_verdict(
     output: &mut [u8],
     at: usize,
@@ -119,7 +112,7 @@ fn put_verdict(
     requires { ⌜ (n ≤ mostJobs) × (at + 95 ≤ length (now output)) ⌝ }
     ensures { λ r. ⌜ Wrote 95 (now (output .entry)) (now (output .exit)) at r (verdictLine n jobs bounds) ⌝ }
 {
-    if none_over(bounds, n) {
+    if marker::table::none_zero(bounds, n) {
         return buffer::put_text(output, at, b"passes\n");
     }
     let after_word = buffer::put_text(output, at, b"fails:");
@@ -127,17 +120,82 @@ fn put_verdict(
     buffer::put_byte(output, after_jobs, b'\n')
 }
 
-// What is printed of the first n jobs with their bounds, at the start of the output; it gives the text's length. No entry; it judges
-// nothing, and for n past 8 it takes all 8 jobs.
-pub fn put_marks(
-    jobs: [Job; Job::MOST],
+// What is printed of n jobs with their bounds, from the start of the output on.
+fn put_marks(output: &mut [u8], jobs: [Job; Job::MOST], bounds: [u16; Job::MOST], n: usize) -> Told
+    requires { ⌜ (n ≤ mostJobs) × (3055 ≤ length (now output)) ⌝ }
+    ensures { λ r. ⌜ (told r ≡ given (noneOver n bounds, (length (rowsTo (markLine jobs bounds) n), length (marksText n jobs bounds)))) × (r .last ≤ r .length) × Wrote 3055 (now (output .entry)) (now (output .exit)) 0 (r .length) (marksText n jobs bounds) ⌝ }
+{
+    let last = put_lines(output, jobs, bounds, n);
+    let length = put_verdict(output, last, jobs, bounds, n);
+    Told {
+        answer: answer::yes_or_no(marker::table::none_zero(bounds, n)),
+        last,
+        length,
+    }
+}
+
+// The lines of n jobs with their settings and bounds, from the start of the output on.
+fn put_bounds(
+    output: &mut [u8],
+    settings: [Setting; Job::MOST],
     bounds: [u16; Job::MOST],
     n: usize,
-    output: &mut [u8; SIZE],
-) -> usize
-    ensures { λ r. ⌜ (r ≤ length (now (output .exit))) × (r ≡ length (marksText (min n mostJobs) jobs bounds)) × (now (output .exit) ≡ sets (now (output .entry)) 0 (marksText (min n mostJobs) jobs bounds)) ⌝ }
+) -> Told
+    requires { ⌜ (n ≤ mostJobs) × (440 ≤ length (now output)) ⌝ }
+    ensures { λ r. ⌜ (told r ≡ given (noneOver n bounds, (length (rowsTo (jobLine settings bounds) n), length (rowsTo (jobLine settings bounds) n)))) × (r .last ≤ r .length) × Wrote 440 (now (output .entry)) (now (output .exit)) 0 (r .length) (rowsTo (jobLine settings bounds) n) ⌝ }
 {
-    let count = Job::at_most(n);
-    let at = put_lines(output, jobs, bounds, count);
-    put_verdict(output, at, jobs, bounds, count)
+    let length = key::put_jobs(output, settings, bounds, n);
+    Told {
+        answer: answer::yes_or_no(marker::table::none_zero(bounds, n)),
+        last: length,
+        length,
+    }
+}
+
+// What is printed of a configuration block that is marked, at the start of the output, and whether it passes.
+pub fn marks(jobs: &[u8], low: u8, high: u8, configuration: &[u8], output: &mut [u8; SIZE]) -> Told
+    ensures { λ r. ⌜ ((told r, now (output .exit)) ≡ marksOutcome (now (jobs .entry)) low high (now (configuration .entry)) (now (output .entry))) × (r .last ≤ r .length) × (r .length ≤ length (now (output .exit))) ⌝ }
+{
+    let call = records::call::read_call(jobs, low, high);
+    let answer = call.answer;
+    let Counted::Count(n) = answer else {
+        return answer::turned(records::refusal::refusal_of(answer));
+    };
+    let table = call.table;
+    let range = call.range;
+    let read = configuration::block::read_full(table, n, range, configuration);
+    let judged = read.answer;
+    if let Counted::Refused(refusal) = judged {
+        return answer::turned(refusal);
+    }
+    let settings = read.settings;
+    let bounds = marker::table::bounds_of(table, settings, n);
+    put_marks(output, table, bounds, Job::at_most(n))
+}
+
+// The lines of a configuration block, full or not, with its bounds, at the start of the output, and whether each job is served.
+pub fn bounds(
+    jobs: &[u8],
+    low: u8,
+    high: u8,
+    configuration: &[u8],
+    output: &mut [u8; key::SIZE],
+) -> Told
+    ensures { λ r. ⌜ ((told r, now (output .exit)) ≡ boundsTold (now (jobs .entry)) low high (now (configuration .entry)) (now (output .entry))) × (r .last ≤ r .length) × (r .length ≤ length (now (output .exit))) ⌝ }
+{
+    let call = records::call::read_call(jobs, low, high);
+    let answer = call.answer;
+    let Counted::Count(n) = answer else {
+        return answer::turned(records::refusal::refusal_of(answer));
+    };
+    let table = call.table;
+    let range = call.range;
+    let read = configuration::block::read_settings(table, n, range, configuration);
+    let judged = read.answer;
+    if let Counted::Refused(refusal) = judged {
+        return answer::turned(refusal);
+    }
+    let settings = read.settings;
+    let bounds = marker::table::bounds_of(table, settings, n);
+    put_bounds(output, settings, bounds, Job::at_most(n))
 }

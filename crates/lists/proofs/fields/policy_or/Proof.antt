@@ -34,9 +34,14 @@ returns-3 : tie.Need-returns-3
 unfolding policyOr
 returns-3 c = simp (sym (c .before .before .before .before .before .before .before .same-bytes .ensures) ∙ c .before .before .before .before .before .before .if1 .left, sym (c .before .before .before .before .same-bytes2 .ensures) ∙ c .before .before .before .if2 .left, sym (c .before .same-bytes3 .ensures) ∙ c .if3 .taken)
 
+number-only-requires : tie.Need-number-only-requires
+number-only-requires c κs = search needs
+
 returns-4 : tie.Need-returns-4
 unfolding policyOr
-returns-4 c = simp (sym (c .before .before .before .before .before .before .before .same-bytes .ensures) ∙ c .before .before .before .before .before .before .if1 .left, sym (c .before .before .before .before .same-bytes2 .ensures) ∙ c .before .before .before .if2 .left, sym (c .before .same-bytes3 .ensures) ∙ c .if3 .left)
+returns-4 c =
+    let p = c .before in
+    c .number-only .ensures ∙ simp (sym (p .before .before .before .before .before .before .before .same-bytes .ensures) ∙ p .before .before .before .before .before .before .if1 .left, sym (p .before .before .before .before .same-bytes2 .ensures) ∙ p .before .before .before .if2 .left, sym (p .before .same-bytes3 .ensures) ∙ p .if3 .left)
 
 pub policy-or-spec : {M : Type 1} → statement M
 policy-or-spec =
@@ -51,4 +56,5 @@ policy-or-spec =
     slice-aggregate-same-bytes-3
     same-bytes-requires-3
     returns-3
+    number-only-requires
     returns-4)

@@ -8,7 +8,7 @@ use Rattle.lists.specs.declared.fields.Form.{Form}
 use Rattle.lists.specs.Words.{isMark}
 use Rattle.lists.specs.Rows.{rowLine, rangeLine}
 use Rattle.lists.proofs.Parsing.{before-within}
-use Rattle.lists.proofs.RowByRow.{line-empty, line-range, line-row}
+use Rattle.lists.proofs.RowByRow.{line-empty, line-range, line-placed, line-row}
 use borrow.Author.Needs.{needs}
 use Rattle.lists.proofs.rows.read_content.Statement.{statement}
 use Rattle.lists.proofs.rows.read_content.Tie as tie
@@ -61,18 +61,37 @@ returns-2 c =
     c .range-line .ensures ∙ ap rangeLine (c .before .read-fields .ensures)
     ∙ sym (line-range (form f) (content f) _ (f .before .before .find .ensures) (word-left f) _ (f .find2 .ensures) (sym (r .says-range .ensures) ∙ c .before .before .if2 .taken))
 
+sub-says-placed : tie.Need-sub-says-placed
+sub-says-placed c = search needs
+
+part-says-placed-start : tie.Need-part-says-placed-start
+part-says-placed-start c = search needs
+
+part-says-placed-end : tie.Need-part-says-placed-end
+part-says-placed-end c = word-end (c .before .before .before)
+
+says-placed-requires : tie.Need-says-placed-requires
+says-placed-requires c κs = search needs
+
+returns-3 : tie.Need-returns-3
+returns-3 c =
+    let f = c .before .before .before .before .before .before in
+    let r = c .before .before .before in
+    sym (line-placed (form f) (content f) _ (f .before .before .find .ensures) (word-left f) _ (f .find2 .ensures) (sym (r .before .says-range .ensures) ∙ r .if2 .left) (sym (c .before .says-placed .ensures) ∙ c .if3 .taken))
+
 read-fields-requires-2 : tie.Need-read-fields-requires-2
 read-fields-requires-2 c κs = search needs
 
 row-line-requires : tie.Need-row-line-requires
 row-line-requires c κs = search needs
 
-returns-3 : tie.Need-returns-3
-returns-3 c =
-    let f = c .before .before .before .before .before in
-    let r = c .before .before .before in
+returns-4 : tie.Need-returns-4
+returns-4 c =
+    let p = c .before .before in
+    let f = p .before .before .before .before .before .before in
+    let r = p .before .before .before in
     c .row-line .ensures ∙ ap rowLine (c .before .read-fields2 .ensures)
-    ∙ sym (line-row (form f) (content f) _ (f .before .before .find .ensures) (word-left f) _ (f .find2 .ensures) (sym (r .says-range .ensures) ∙ c .before .before .if2 .left))
+    ∙ sym (line-row (form f) (content f) _ (f .before .before .find .ensures) (word-left f) _ (f .find2 .ensures) (sym (r .before .says-range .ensures) ∙ r .if2 .left) (sym (p .before .says-placed .ensures) ∙ p .if3 .left))
 
 pub read-content-spec : {M : Type 1} → statement M
 read-content-spec =
@@ -88,6 +107,11 @@ read-content-spec =
     read-fields-requires
     range-line-requires
     returns-2
+    sub-says-placed
+    part-says-placed-start
+    part-says-placed-end
+    says-placed-requires
+    returns-3
     read-fields-requires-2
     row-line-requires
-    returns-3)
+    returns-4)

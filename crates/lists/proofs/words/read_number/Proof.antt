@@ -12,10 +12,10 @@ use Rattle.lists.proofs.words.read_number.Statement.{statement}
 use Rattle.lists.proofs.words.read_number.Tie as tie
 
 abbrev Inv-loop : tie.InvT-loop
-Inv-loop word place limit value₀ i₀ value i = (value ≤ limit + 1) × (numberFrom place limit value (drop i word) ≡ numberFrom place limit 0 word)
+Inv-loop word place told limit value₀ i₀ value i = (value ≤ limit + 1) × (numberFrom place told limit value (drop i word) ≡ numberFrom place told limit 0 word)
 
 abbrev μ-loop : tie.MeasureT-loop
-μ-loop word place limit value₀ i₀ value i = length word - i
+μ-loop word place told limit value₀ i₀ value i = length word - i
 
 loop-holds : tie.Need-loop-holds Inv-loop μ-loop
 loop-holds c = (search needs, refl)
@@ -32,7 +32,7 @@ returns c =
     let l = c .before .before .before .before in
     let a = l .before .before .args in
     let h : l .loop .i < length (a .word .now) = omega arith in
-    sym (number-stop (a .place) (a .limit) (l .loop .value) (a .word .now) (l .loop .i) h (sym (c .before .is-digit .ensures) ∙ not-true _ (c .if1 .taken))) ∙ l .loop .inv .1
+    sym (number-stop (a .place) (a .told) (a .limit) (l .loop .value) (a .word .now) (l .loop .i) h (sym (c .before .is-digit .ensures) ∙ not-true _ (c .if1 .taken))) ∙ l .loop .inv .1
 
 -- Past a byte that is a digit.
 module _ (c : tie.Else1 Inv-loop μ-loop) where
@@ -76,7 +76,7 @@ loop-again c =
     let h : i < length word = omega arith in
     let n = l .loop .value * 10 + (getD word i 0 - digit 0) in
     let same : min (c .capped .result) (a .limit + 1) ≡ min n (a .limit + 1) = omega (arith, c .capped .ensures) in
-    (omega (arith, c .capped .ensures), number-capped (a .place) (a .limit) (c .capped .result) n same (drop (i + 1) word) ∙ sym (number-next (a .place) (a .limit) (l .loop .value) word i h (is p)) ∙ l .loop .inv .1)
+    (omega (arith, c .capped .ensures), number-capped (a .place) (a .told) (a .limit) (c .capped .result) n same (drop (i + 1) word) ∙ sym (number-next (a .place) (a .told) (a .limit) (l .loop .value) word i h (is p)) ∙ l .loop .inv .1)
 
 returns-2 : tie.Need-returns-2 Inv-loop μ-loop
 unfolding numberOf
@@ -84,10 +84,10 @@ returns-2 c =
     let l = c .before .before in
     let a = l .before .before .args in
     let h : length (a .word .now) ≤ l .loop .i = omega arith in
-    sym (number-end (a .place) (a .limit) (l .loop .value) (a .word .now) (l .loop .i) h ∙ simp (lt-leb _ _ (c .if2 .taken))) ∙ l .loop .inv .1
+    sym (number-end (a .place) (a .told) (a .limit) (l .loop .value) (a .word .now) (l .loop .i) h ∙ simp (lt-leb _ _ (c .if2 .taken))) ∙ l .loop .inv .1
 
-cast-t19 : tie.Need-cast-t19 Inv-loop μ-loop
-cast-t19 c = search needs
+cast-t20 : tie.Need-cast-t20 Inv-loop μ-loop
+cast-t20 c = search needs
 
 returns-3 : tie.Need-returns-3 Inv-loop μ-loop
 unfolding numberOf
@@ -95,7 +95,7 @@ returns-3 c =
     let l = c .before .before in
     let a = l .before .before .args in
     let h : length (a .word .now) ≤ l .loop .i = omega arith in
-    sym (number-end (a .place) (a .limit) (l .loop .value) (a .word .now) (l .loop .i) h ∙ simp (le-leb _ _ (c .if2 .left))) ∙ l .loop .inv .1
+    sym (number-end (a .place) (a .told) (a .limit) (l .loop .value) (a .word .now) (l .loop .i) h ∙ simp (le-leb _ _ (c .if2 .left))) ∙ l .loop .inv .1
 
 pub read-number-spec : {M : Type 1} → statement M
 read-number-spec =
@@ -116,5 +116,5 @@ read-number-spec =
     loop-less
     loop-again
     returns-2
-    cast-t19
+    cast-t20
     returns-3)

@@ -1,7 +1,6 @@
-use Prim.Native.Nat.{ℕ}
-use mathlib.Core.Path.{_≡_, ap, _∙_}
+use Prim.Native.Nat.{ℕ, min}
+use mathlib.Core.Path.{_≡_, refl, ap, _∙_}
 use mathlib.Core.List.{List}
-use native.Mathlib.Omega.{arith}
 use lib.Dec.{ltb}
 use lib.ListN.{length, getD, take}
 use Rattle.sets.specs.Places.{every}
@@ -15,21 +14,18 @@ use Rattle.marker.proofs.table.all_served.Tie as tie
 bounds-of-requires : tie.Need-bounds-of-requires
 bounds-of-requires c κs = search needs
 
-at-most-requires : tie.Need-at-most-requires
-at-most-requires c κs = search needs
-
 none-zero-requires : tie.Need-none-zero-requires
-none-zero-requires c κs = omega (arith, c .at-most .ensures)
+none-zero-requires c κs = search needs
 
 returns : tie.Need-returns
 returns c =
-    let m = c .before in
-    let a = m .before .before .args in
+    let b = c .before in
+    let a = b .before .args in
+    let count = min (a .n) mostJobs in
     let size : length (a .jobs) ≡ mostJobs = search needs in
     c .none-zero .ensures
-    ∙ ap (λ (l : List ℕ). every (λ i. ltb 0 (getD l i 0)) (m .at-most .result)) (m .before .bounds-of .ensures)
-    ∙ served-table (take (a .n) (a .jobs)) (take (a .n) (a .settings)) (m .at-most .result) (cut-length (a .jobs) mostJobs (a .n) _ size (m .at-most .ensures))
+    ∙ ap (λ (l : List ℕ). every (λ i. ltb 0 (getD l i 0)) count) (b .bounds-of .ensures)
+    ∙ served-table (take (a .n) (a .jobs)) (take (a .n) (a .settings)) count (cut-length (a .jobs) mostJobs (a .n) count size refl)
 
 pub all-served-spec : {M : Type 1} → statement M
-all-served-spec =
-    tie.close (tie.spec bounds-of-requires at-most-requires none-zero-requires returns)
+all-served-spec = tie.close (tie.spec bounds-of-requires none-zero-requires returns)

@@ -1,6 +1,8 @@
+use lib.Dec.{ltb}
+use Rattle.sets.specs.Places.{every}
 use mathlib.Core.Path.{_≡_, sym, ap, _∙_}
 use mathlib.Core.Bool.{Bool}
-use lib.ListN.{length, take}
+use lib.ListN.{length, getD, take}
 use native.Mathlib.Omega.{arith}
 use Rattle.records.specs.Limits.{mostJobs}
 use Rattle.records.specs.Refusals.{given}
@@ -40,7 +42,7 @@ fill-bounds-requires : tie.Need-fill-bounds-requires
 fill-bounds-requires c κs = (omega (arith, c .before .before .at-most .ensures), search needs)
 
 none-zero-requires : tie.Need-none-zero-requires
-none-zero-requires c κs = omega (arith, c .before .before .before .before .before .at-most .ensures)
+none-zero-requires c κs = search needs
 
 -- The bounds are written; what they say decides.
 done : (c : tie.After-none-zero) → let f = c .before .before .before in let a = f .before .before .before .before .before .args in
@@ -52,7 +54,7 @@ done c =
     let s = m .before .before in
     let a = s .args in
     ap (λ (b : Bool). (given b, f .fill-bounds .last .1 .1 .1 .0))
-    (c .none-zero .ensures ∙ bounds-served (a .jobs) (a .settings) mostJobs (a .n) _ (jobs-size s) (settings-size s) (m .at-most .ensures) _ (f .fill-bounds .ensures .0))
+    (c .none-zero .ensures ∙ ap (every (λ i. ltb 0 (getD (f .fill-bounds .result) i 0))) (omega (arith, m .at-most .ensures)) ∙ bounds-served (a .jobs) (a .settings) mostJobs (a .n) _ (jobs-size s) (settings-size s) (m .at-most .ensures) _ (f .fill-bounds .ensures .0))
     ∙ bounds-done (a .jobs) (a .settings) mostJobs (a .n) _ (jobs-size s) (settings-size s) (m .at-most .ensures) (served s) (a .output .now) (f .before .before .if1 .left) _ (f .fill-bounds .ensures .1)
 
 same-length : tie.Need-same-length

@@ -13,8 +13,8 @@ enum-known-fault c = search needs
 slice-aggregate-put-filled : tie.Need-slice-aggregate-put-filled
 slice-aggregate-put-filled c = search needs
 
-cast-t19 : tie.Need-cast-t19
-cast-t19 c = search needs
+cast-t20 : tie.Need-cast-t20
+cast-t20 c = search needs
 
 put-filled-requires : tie.Need-put-filled-requires
 put-filled-requires c κs = search needs
@@ -25,11 +25,11 @@ enum-known-fault-2 c = search needs
 slice-aggregate-put-filled-2 : tie.Need-slice-aggregate-put-filled-2
 slice-aggregate-put-filled-2 c = search needs
 
-cast-t25 : tie.Need-cast-t25
-cast-t25 c = search needs
-
 cast-t26 : tie.Need-cast-t26
 cast-t26 c = search needs
+
+cast-t27 : tie.Need-cast-t27
+cast-t27 c = search needs
 
 put-filled-requires-2 : tie.Need-put-filled-requires-2
 put-filled-requires-2 c κs = search needs
@@ -79,12 +79,21 @@ slice-aggregate-put-filled-7 c = search needs
 put-filled-requires-7 : tie.Need-put-filled-requires-7
 put-filled-requires-7 c κs = search needs
 
+enum-told-6 : tie.Need-enum-told-6
+enum-told-6 c = search needs
+
+slice-aggregate-put-filled-8 : tie.Need-slice-aggregate-put-filled-8
+slice-aggregate-put-filled-8 c = search needs
+
+put-filled-requires-8 : tie.Need-put-filled-requires-8
+put-filled-requires-8 c κs = search needs
+
 same-length : tie.Need-same-length
 same-length c = search needs
 
 returns : tie.Need-returns
 unfolding filled
-returns c =
+returns c = 
     let put = c .before .before in
     retold (widened 600 (put .put-filled .ensures) (omega arith)) (sym (ap message (put .before .before .before .before .fault .given .1)))
 
@@ -93,7 +102,7 @@ same-length-2 c = search needs
 
 returns-2 : tie.Need-returns-2
 unfolding filled
-returns-2 c =
+returns-2 c = 
     let put = c .before .before in
     retold (widened 600 (put .put-filled2 .ensures) (omega arith)) (sym (ap message (put .before .before .before .before .fault2 .given .1)))
 
@@ -102,7 +111,7 @@ same-length-3 c = search needs
 
 returns-3 : tie.Need-returns-3
 unfolding filled
-returns-3 c =
+returns-3 c = 
     let put = c .before .before in
     retold (widened 600 (put .put-filled3 .ensures) (omega arith)) (sym (ap message (put .before .before .before .enum-told .given .1)))
 
@@ -111,7 +120,7 @@ same-length-4 c = search needs
 
 returns-4 : tie.Need-returns-4
 unfolding filled
-returns-4 c =
+returns-4 c = 
     let put = c .before .before in
     retold (widened 600 (put .put-filled4 .ensures) (omega arith)) (sym (ap message (put .before .before .before .enum-told2 .given .1)))
 
@@ -120,7 +129,7 @@ same-length-5 c = search needs
 
 returns-5 : tie.Need-returns-5
 unfolding filled
-returns-5 c =
+returns-5 c = 
     let put = c .before .before in
     retold (widened 600 (put .put-filled5 .ensures) (omega arith)) (sym (ap message (put .before .before .before .enum-told3 .given .1)))
 
@@ -129,7 +138,7 @@ same-length-6 c = search needs
 
 returns-6 : tie.Need-returns-6
 unfolding filled
-returns-6 c =
+returns-6 c = 
     let put = c .before .before in
     retold (widened 600 (put .put-filled6 .ensures) (omega arith)) (sym (ap message (put .before .before .before .enum-told4 .given .1)))
 
@@ -138,9 +147,18 @@ same-length-7 c = search needs
 
 returns-7 : tie.Need-returns-7
 unfolding filled
-returns-7 c =
+returns-7 c = 
     let put = c .before .before in
     retold (widened 600 (put .put-filled7 .ensures) (omega arith)) (sym (ap message (put .before .before .before .enum-told5 .given .1)))
+
+same-length-8 : tie.Need-same-length-8
+same-length-8 c = search needs
+
+returns-8 : tie.Need-returns-8
+unfolding filled
+returns-8 c = 
+    let put = c .before .before in
+    retold (widened 600 (put .put-filled8 .ensures) (omega arith)) (sym (ap message (put .before .before .before .enum-told6 .given .1)))
 
 pub put-message-spec : {M : Type 1} → statement M
 put-message-spec =
@@ -148,12 +166,12 @@ put-message-spec =
     (tie.spec
     enum-known-fault
     slice-aggregate-put-filled
-    cast-t19
+    cast-t20
     put-filled-requires
     enum-known-fault-2
     slice-aggregate-put-filled-2
-    cast-t25
     cast-t26
+    cast-t27
     put-filled-requires-2
     enum-told
     slice-aggregate-put-filled-3
@@ -170,6 +188,9 @@ put-message-spec =
     enum-told-5
     slice-aggregate-put-filled-7
     put-filled-requires-7
+    enum-told-6
+    slice-aggregate-put-filled-8
+    put-filled-requires-8
     same-length
     returns
     same-length-2
@@ -183,4 +204,6 @@ put-message-spec =
     same-length-6
     returns-6
     same-length-7
-    returns-7)
+    returns-7
+    same-length-8
+    returns-8)

@@ -1,15 +1,16 @@
-use Prim.Native.Nat.{ℕ}
-use mathlib.Core.Path.{ap}
-use mathlib.Core.List.{_++_}
-use Rattle.text.specs.Lines.{rowsTo}
-use Rattle.text.specs.Marks.{markLine, verdictLine, marksText}
-use Rattle.text.proofs.Writing.{then, retold, whole}
+use Prim.Native.Nat.{ℕ, min}
+use mathlib.Core.Path.{_≡_, ap, ap₂, _∙_}
+use mathlib.Core.Bool.{Bool}
+use native.Mathlib.Nat.{zero-add}
+use native.Mathlib.Omega.{arith}
+use Rattle.records.specs.Limits.{mostJobs}
+use Rattle.records.specs.Refusals.{Answer, given}
+use Rattle.text.specs.Answers.{placed}
+use Rattle.text.specs.Marks.{noneOver, marksText}
+use Rattle.text.proofs.Writing.{then}
 use borrow.Author.Needs.{needs}
 use Rattle.text.proofs.marks.put_marks.Statement.{statement}
 use Rattle.text.proofs.marks.put_marks.Tie as tie
-
-at-most-requires : tie.Need-at-most-requires
-at-most-requires c κs = search needs
 
 put-lines-requires : tie.Need-put-lines-requires
 put-lines-requires c κs = search needs
@@ -17,14 +18,39 @@ put-lines-requires c κs = search needs
 put-verdict-requires : tie.Need-put-verdict-requires
 put-verdict-requires c κs = search needs
 
+none-zero-requires : tie.Need-none-zero-requires
+none-zero-requires c κs = search needs
+
+yes-or-no-requires : tie.Need-yes-or-no-requires
+yes-or-no-requires c κs = search needs
+
+same-length : tie.Need-same-length
+same-length c = search needs
+
 returns : tie.Need-returns
 unfolding marksText
-returns c =
-    let l = c .before .before in
-    let m = l .before .before in
-    let a = m .before .args in
-    whole (retold (then (l .put-lines .ensures) (c .put-verdict .ensures)) (ap (λ (k : ℕ). rowsTo (markLine (a .jobs) (a .bounds)) k ++ verdictLine k (a .jobs) (a .bounds)) (m .at-most .ensures))) (search needs)
+returns c = 
+    let z = c .before in
+    let verdict = z .before .before .before in
+    let lines = verdict .before .before .before .before in
+    let a = lines .before .before .before .args in
+    let n : min (a .n) mostJobs ≡ a .n = omega (arith, lines .before .before .before .pre .0) in
+    let all = then (lines .put-lines .ensures) (verdict .put-verdict .ensures) in
+    (
+      ap₂ (λ (x : Answer Bool) (y : ℕ × ℕ). placed x (y .0) (y .1))
+      (c .yes-or-no .ensures ∙ ap (λ (b : Bool). given b) (z .none-zero .ensures ∙ ap (λ (k : ℕ). noneOver k (a .bounds)) n))
+      (ap₂ (λ (x y : ℕ). (x, y)) (lines .put-lines .ensures .next ∙ zero-add _) (all .next ∙ zero-add _)),
+      omega (arith, verdict .put-verdict .ensures .next),
+      all,
+    )
 
 pub put-marks-spec : {M : Type 1} → statement M
 put-marks-spec =
-    tie.close (tie.spec at-most-requires put-lines-requires put-verdict-requires returns)
+    tie.close
+    (tie.spec
+    put-lines-requires
+    put-verdict-requires
+    none-zero-requires
+    yes-or-no-requires
+    same-length
+    returns)

@@ -1,15 +1,20 @@
-use mathlib.Core.Path.{sym, ap, _∙_}
+use Prim.Native.Nat.{ℕ}
+use mathlib.Core.Path.{_≡_, sym, ap, _∙_}
 use mathlib.Core.Bool.{Bool, cond}
 use mathlib.Core.List.{[], _∷_}
 use native.Mathlib.Omega.{arith}
-use Rattle.text.specs.Marks.{failsLine}
+use Rattle.text.specs.Marks.{noneOver, failsLine}
 use Rattle.text.proofs.Writing.{then, retold, widened}
 use borrow.Author.Needs.{needs}
 use Rattle.text.proofs.marks.put_verdict.Statement.{statement}
 use Rattle.text.proofs.marks.put_verdict.Tie as tie
 
-none-over-requires : tie.Need-none-over-requires
-none-over-requires c κs = search needs
+none-zero-requires : tie.Need-none-zero-requires
+none-zero-requires c κs = search needs
+
+-- What the code asked is whether none of the n bounds is 0.
+passing : (c : tie.After-none-zero) → let a = c .before .before .args in c .none-zero .result ≡ noneOver (a .n) (a .bounds)
+passing c = let a = c .before .before .args in c .none-zero .ensures ∙ ap (λ (k : ℕ). noneOver k (a .bounds)) (omega (arith, c .before .before .pre))
 
 slice-aggregate-put-text : tie.Need-slice-aggregate-put-text
 slice-aggregate-put-text c = search needs
@@ -25,7 +30,7 @@ returns c =
     let put = c .before .before in
     let i = put .before .before .before in
     let a = i .before .before .before .args in
-    retold (widened 95 (put .put-text .ensures) (omega arith)) (sym (ap (λ (b : Bool). cond b (112 ∷ 97 ∷ 115 ∷ 115 ∷ 101 ∷ 115 ∷ 10 ∷ []) (failsLine (a .n) (a .jobs) (a .bounds))) (sym (i .before .none-over .ensures) ∙ i .if1 .taken)))
+    retold (widened 95 (put .put-text .ensures) (omega arith)) (sym (ap (λ (b : Bool). cond b (112 ∷ 97 ∷ 115 ∷ 115 ∷ 101 ∷ 115 ∷ 10 ∷ []) (failsLine (a .n) (a .jobs) (a .bounds))) (sym (passing (i .before)) ∙ i .if1 .taken)))
 
 slice-aggregate-put-text-2 : tie.Need-slice-aggregate-put-text-2
 slice-aggregate-put-text-2 c = search needs
@@ -49,13 +54,13 @@ returns-2 c =
     let word = overs .before .before .before .before in
     let i = word .before .before .before in
     let a = i .before .before .before .args in
-    retold (then (word .put-text2 .ensures) (then (overs .put-overs .ensures) (put .put-byte .ensures))) (sym (ap (λ (b : Bool). cond b (112 ∷ 97 ∷ 115 ∷ 115 ∷ 101 ∷ 115 ∷ 10 ∷ []) (failsLine (a .n) (a .jobs) (a .bounds))) (sym (i .before .none-over .ensures) ∙ i .if1 .left)))
+    retold (then (word .put-text2 .ensures) (then (overs .put-overs .ensures) (put .put-byte .ensures))) (sym (ap (λ (b : Bool). cond b (112 ∷ 97 ∷ 115 ∷ 115 ∷ 101 ∷ 115 ∷ 10 ∷ []) (failsLine (a .n) (a .jobs) (a .bounds))) (sym (passing (i .before)) ∙ i .if1 .left)))
 
 pub put-verdict-spec : {M : Type 1} → statement M
 put-verdict-spec =
     tie.close
     (tie.spec
-    none-over-requires
+    none-zero-requires
     slice-aggregate-put-text
     put-text-requires
     same-length
