@@ -7,7 +7,7 @@ use Rattle.lists.specs.Decimals.{space, lineFeed, digit}
 use Rattle.lists.specs.declared.fault.Fault.{Fault}
 use Rattle.lists.specs.declared.fault.Fault.the-variants.{NotANumber, TooLarge, TooMany}
 use Rattle.lists.specs.declared.words.Mark.{Mark}
-use Rattle.lists.specs.declared.words.Mark.the-variants.{LineEnd, Comment, Blank, Word}
+use Rattle.lists.specs.declared.words.Mark.the-variants.{LineEnd, Comment, Hyphen, Blank, Word}
 use Rattle.lists.specs.declared.words.WordAnswer.{WordAnswer}
 use Rattle.lists.specs.declared.words.WordAnswer.the-variants.{Number, Wrong}
 
@@ -22,14 +22,18 @@ carriageReturn = 13
 abbrev pub numberSign : ℕ
 numberSign = 35
 
+abbrev pub hyphen : ℕ
+hyphen = 45
+
 -- The byte stands between words.
 abbrev pub isBlank : ℕ → Bool
 isBlank byte = eqb byte space || (eqb byte tab || eqb byte carriageReturn)
 
--- The byte ends a line, starts a comment, stands between words, or belongs to a word.
+-- The byte ends a line, starts a comment, is a hyphen, stands between words, or belongs to a word.
 abbrev pub isMark : Mark → ℕ → Bool
 isMark LineEnd byte = eqb byte lineFeed
 isMark Comment byte = eqb byte numberSign
+isMark Hyphen byte = eqb byte hyphen
 isMark Blank byte = isBlank byte
 isMark Word byte = not (isBlank byte)
 

@@ -3,4 +3,4 @@ pub mod fault;
 pub mod fields;
 pub mod rows;
 pub mod tables;
-mod words;
+pub mod words;

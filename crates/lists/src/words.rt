@@ -9,6 +9,7 @@ use crate::fault::Fault;
 pub enum Mark {
     LineEnd,
     Comment,
+    Hyphen,
     Blank,
     Word,
 }
@@ -37,13 +38,14 @@ fn is_mark(mark: Mark, byte: u8) -> bool
     match mark {
         Mark::LineEnd => byte == b'\n',
         Mark::Comment => byte == b'#',
+        Mark::Hyphen => byte == b'-',
         Mark::Blank => is_blank(byte),
         Mark::Word => !is_blank(byte),
     }
 }
 
-// The first place from `from` on with such a byte, or the text's length.
-pub(crate) fn find(mark: Mark, text: &[u8], from: usize) -> usize
+// The first place from `from` on with such a byte, or the text's length. No entry.
+pub fn find(mark: Mark, text: &[u8], from: usize) -> usize
     ensures { λ r. ⌜ r ≡ from + length (before (isMark mark) (drop from (now (text .entry)))) ⌝ }
 {
     let mut i = from;
@@ -73,8 +75,8 @@ fn capped(value: u32, limit: u16) -> u32
     if value < most { value } else { most }
 }
 
-// A word as a number of at most `limit`; `place` is the word's in its line, `told` the limit that is told of a larger number.
-pub(crate) fn read_number(word: &[u8], place: u8, told: u16, limit: u16) -> WordAnswer
+// A word as a number of at most `limit`; `place` is the word's in its line, `told` the limit that is told of a larger number. No entry.
+pub fn read_number(word: &[u8], place: u8, told: u16, limit: u16) -> WordAnswer
     ensures { λ r. ⌜ r ≡ numberOf place told limit (now (word .entry)) ⌝ }
 {
     let mut value: u32 = 0;

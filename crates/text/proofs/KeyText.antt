@@ -135,6 +135,7 @@ module _ (jobs : List ℕ) (low high : ℕ) (call : Call) (asks : asked call ≡
           made list (call .range .low) (call .range .high) own (promised .guarantee own told) less m sized r (ap (λ (x : ℕ × Plan). x .1) is)
           ∙ ap₂ (λ (l : List Job) (x : Range). keyText (length l) (plan l (x .low) (x .high))) (known .list) (known .range)
           ∙ sym (ap (λ (x : Answer (Unit {0}) × Unit {0}). keyOr (x .0) (keyText (length (jobList jobs)) (plan (jobList jobs) low high))) (accepts tt tt tt (callTests jobs low high) called))
+
 -- ---- the promise
 
 -- Of a text that fills a buffer from its start.

@@ -117,6 +117,13 @@ fn put_refused(output: &mut [u8], number: u8) -> usize
     buffer::put_byte(output, after_number, b'\n')
 }
 
+// The line of a refused block, at the start of the output; it gives the text's length. No entry.
+pub fn refused(number: u8, output: &mut [u8; SIZE]) -> usize
+    ensures { λ r. ⌜ (r ≤ length (now (output .exit))) × (r ≡ length (refusedText number)) × (now (output .exit) ≡ sets (now (output .entry)) 0 (refusedText number)) ⌝ }
+{
+    put_refused(output, number)
+}
+
 // The answer beside a key, and the key's length.
 pub struct Keyed {
     pub answer: Answered,

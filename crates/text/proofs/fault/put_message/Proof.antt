@@ -93,7 +93,7 @@ same-length c = search needs
 
 returns : tie.Need-returns
 unfolding filled
-returns c = 
+returns c =
     let put = c .before .before in
     retold (widened 600 (put .put-filled .ensures) (omega arith)) (sym (ap message (put .before .before .before .before .fault .given .1)))
 
@@ -102,7 +102,7 @@ same-length-2 c = search needs
 
 returns-2 : tie.Need-returns-2
 unfolding filled
-returns-2 c = 
+returns-2 c =
     let put = c .before .before in
     retold (widened 600 (put .put-filled2 .ensures) (omega arith)) (sym (ap message (put .before .before .before .before .fault2 .given .1)))
 
@@ -111,7 +111,7 @@ same-length-3 c = search needs
 
 returns-3 : tie.Need-returns-3
 unfolding filled
-returns-3 c = 
+returns-3 c =
     let put = c .before .before in
     retold (widened 600 (put .put-filled3 .ensures) (omega arith)) (sym (ap message (put .before .before .before .enum-told .given .1)))
 
@@ -120,7 +120,7 @@ same-length-4 c = search needs
 
 returns-4 : tie.Need-returns-4
 unfolding filled
-returns-4 c = 
+returns-4 c =
     let put = c .before .before in
     retold (widened 600 (put .put-filled4 .ensures) (omega arith)) (sym (ap message (put .before .before .before .enum-told2 .given .1)))
 
@@ -129,7 +129,7 @@ same-length-5 c = search needs
 
 returns-5 : tie.Need-returns-5
 unfolding filled
-returns-5 c = 
+returns-5 c =
     let put = c .before .before in
     retold (widened 600 (put .put-filled5 .ensures) (omega arith)) (sym (ap message (put .before .before .before .enum-told3 .given .1)))
 
@@ -138,7 +138,7 @@ same-length-6 c = search needs
 
 returns-6 : tie.Need-returns-6
 unfolding filled
-returns-6 c = 
+returns-6 c =
     let put = c .before .before in
     retold (widened 600 (put .put-filled6 .ensures) (omega arith)) (sym (ap message (put .before .before .before .enum-told4 .given .1)))
 
@@ -147,7 +147,7 @@ same-length-7 c = search needs
 
 returns-7 : tie.Need-returns-7
 unfolding filled
-returns-7 c = 
+returns-7 c =
     let put = c .before .before in
     retold (widened 600 (put .put-filled7 .ensures) (omega arith)) (sym (ap message (put .before .before .before .enum-told5 .given .1)))
 
@@ -156,7 +156,7 @@ same-length-8 c = search needs
 
 returns-8 : tie.Need-returns-8
 unfolding filled
-returns-8 c = 
+returns-8 c =
     let put = c .before .before in
     retold (widened 600 (put .put-filled8 .ensures) (omega arith)) (sym (ap message (put .before .before .before .enum-told6 .given .1)))
 

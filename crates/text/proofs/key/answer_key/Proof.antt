@@ -86,14 +86,13 @@ returns-2 c =
     let r = p .plan-table .result in
     let text = key-text (a .jobs .now) (a .low) (a .high) _ (call .read-call .ensures) _ (known .answer .given .1) _ (p .plan-table .ensures) _ (made .planned .given .1) in
     let held = key-promise (a .jobs .now) (a .low) (a .high) _ _ _
-    (whole (retold (put .put-key .ensures) (ap (λ (m : ℕ). tableText (r .settings) (r .bounds) m (made .planned .given .0 .0)) (sized .size .ensures) ∙ text)) (put-key-requires (put .before) (put .put-key .lifetimes) .1)) in
-    (
+    (whole (retold (put .put-key .ensures) (ap (λ (m : ℕ). tableText (r .settings) (r .bounds) m (made .planned .given .0 .0)) (sized .size .ensures) ∙ text)) (put-key-requires (put .before) (put .put-key .lifetimes) .1)) in (
       held .0,
       held .1,
       held .2,
       c .yes-or-no .ensures
-      ∙ ap (λ (k : ℕ). given (eqb k (made .planned .given .0 .0))) (sized .size .ensures)
-      ∙ answer-given (a .jobs .now) (a .low) (a .high) _ (call .read-call .ensures) _ (known .answer .given .1) _ (p .plan-table .ensures) _ (made .planned .given .1),
+          ∙ ap (λ (k : ℕ). given (eqb k (made .planned .given .0 .0))) (sized .size .ensures)
+          ∙ answer-given (a .jobs .now) (a .low) (a .high) _ (call .read-call .ensures) _ (known .answer .given .1) _ (p .plan-table .ensures) _ (made .planned .given .1),
     )
 
 returns-3 : tie.Need-returns-3

@@ -60,14 +60,13 @@ module _ (c : tie.Start) where
 
 returns : tie.Need-returns
 unfolding boundsTold
-returns c = 
+returns c =
     let t = c .before in
     let r = t .before .before .before in
-    let s = r .before .before .before in
-    (
+    let s = r .before .before .before in (
       ap₂ (λ (x : Answer (Bool × (ℕ × ℕ))) (y : List ℕ). (x, y)) (c .turned .ensures .0) refl
-      ∙ call-turned (jobs s) (s .args .low) (s .args .high) [] _ (r .read-call .ensures) (tests s (jobList (jobs s)) (s .args .low) (s .args .high) ++ []) (values s) (new s) (output s)
-      _ _ (t .before .enum-told .given .1) (t .refusal-of .ensures),
+          ∙ call-turned (jobs s) (s .args .low) (s .args .high) [] _ (r .read-call .ensures) (tests s (jobList (jobs s)) (s .args .low) (s .args .high) ++ []) (values s) (new s) (output s)
+          _ _ (t .before .enum-told .given .1) (t .refusal-of .ensures),
       omega (arith, c .turned .ensures),
       omega (arith, c .turned .ensures),
     )
@@ -83,16 +82,15 @@ turned-requires-2 c κs = search needs
 
 returns-2 : tie.Need-returns-2
 unfolding boundsTold readSettings
-returns-2 c = 
+returns-2 c =
     let j = c .before .before in
     let h = j .before .before in
     let told = h .before .before .before .before in
     let r = told .before .before in
-    let s = r .before .before .before in
-    (
+    let s = r .before .before .before in (
       ap₂ (λ (x : Answer (Bool × (ℕ × ℕ))) (y : List ℕ). (x, y)) (c .turned2 .ensures .0) refl
-      ∙ hand-in-turned (jobs s) (s .args .low) (s .args .high) [] _ (r .read-call .ensures) _ (told .answer .given .1) (block s) (tests s) _ (h .read-settings .ensures) [] (values s) (new s) (output s)
-      _ (j .judged .given .1),
+          ∙ hand-in-turned (jobs s) (s .args .low) (s .args .high) [] _ (r .read-call .ensures) _ (told .answer .given .1) (block s) (tests s) _ (h .read-settings .ensures) [] (values s) (new s) (output s)
+          _ (j .judged .given .1),
       omega (arith, c .turned2 .ensures),
       omega (arith, c .turned2 .ensures),
     )
@@ -111,7 +109,7 @@ put-bounds-requires c κs = search needs
 
 returns-3 : tie.Need-returns-3
 unfolding boundsTold readSettings
-returns-3 c = 
+returns-3 c =
     let most = c .before in
     let found = most .before .before in
     let t = found .before .before in
@@ -130,12 +128,11 @@ returns-3 c =
     let same = bound-rows table settings (jobList (jobs s)) (settingsOf (jobs s) (block s)) n _ cut size (on .0 .list) (on .0 .settings) _ (found .bounds-of .ensures) in
     let first = bound-rows table settings (jobList (jobs s)) (settingsOf (jobs s) (block s)) n _ cut size (on .0 .list) (on .0 .settings) _ (found .bounds-of .ensures) in
     let over = none-over table settings (jobList (jobs s)) (settingsOf (jobs s) (block s)) n _ cut size (on .0 .list) (on .0 .settings) _ (found .bounds-of .ensures) in
-    let wrote = c .put-bounds .ensures in
-    (
+    let wrote = c .put-bounds .ensures in (
       ap₂ (λ (x : Answer (Bool × (ℕ × ℕ))) (y : List ℕ). (x, y))
-      (wrote .0 ∙ ap₂ (λ (b : Bool) (p : ℕ × ℕ). given (b, p)) (over) (ap₂ (λ (x y : ℕ). (x, y)) (ap length first) (ap length same)))
-      (wrote .2 .bytes ∙ ap (sets (output s) 0) same)
-      ∙ on .1,
+          (wrote .0 ∙ ap₂ (λ (b : Bool) (p : ℕ × ℕ). given (b, p)) (over) (ap₂ (λ (x y : ℕ). (x, y)) (ap length first) (ap length same)))
+          (wrote .2 .bytes ∙ ap (sets (output s) 0) same)
+          ∙ on .1,
       wrote .1,
       whole (wrote .2) (put-bounds-requires (c .before) (c .put-bounds .lifetimes) .1) .0,
     )

@@ -24,16 +24,15 @@ same-length : tie.Need-same-length
 same-length c = search needs
 
 returns : tie.Need-returns
-returns c = 
+returns c =
     let z = c .before in
     let put = z .before .before .before in
     let a = put .before .before .before .args in
     let n : min (a .n) mostJobs ≡ a .n = omega (arith, put .before .before .before .pre .0) in
-    let length = put .put-jobs .ensures .next ∙ zero-add _ in
-    (
+    let length = put .put-jobs .ensures .next ∙ zero-add _ in (
       ap₂ (λ (x : Answer Bool) (y : ℕ × ℕ). placed x (y .0) (y .1))
-      (c .yes-or-no .ensures ∙ ap (λ (b : Bool). given b) (z .none-zero .ensures ∙ ap (λ (k : ℕ). noneOver k (a .bounds)) n))
-      (ap₂ (λ (x y : ℕ). (x, y)) length length),
+          (c .yes-or-no .ensures ∙ ap (λ (b : Bool). given b) (z .none-zero .ensures ∙ ap (λ (k : ℕ). noneOver k (a .bounds)) n))
+          (ap₂ (λ (x y : ℕ). (x, y)) length length),
       omega arith,
       put .put-jobs .ensures,
     )

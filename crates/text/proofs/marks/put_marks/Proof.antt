@@ -29,17 +29,16 @@ same-length c = search needs
 
 returns : tie.Need-returns
 unfolding marksText
-returns c = 
+returns c =
     let z = c .before in
     let verdict = z .before .before .before in
     let lines = verdict .before .before .before .before in
     let a = lines .before .before .before .args in
     let n : min (a .n) mostJobs ≡ a .n = omega (arith, lines .before .before .before .pre .0) in
-    let all = then (lines .put-lines .ensures) (verdict .put-verdict .ensures) in
-    (
+    let all = then (lines .put-lines .ensures) (verdict .put-verdict .ensures) in (
       ap₂ (λ (x : Answer Bool) (y : ℕ × ℕ). placed x (y .0) (y .1))
-      (c .yes-or-no .ensures ∙ ap (λ (b : Bool). given b) (z .none-zero .ensures ∙ ap (λ (k : ℕ). noneOver k (a .bounds)) n))
-      (ap₂ (λ (x y : ℕ). (x, y)) (lines .put-lines .ensures .next ∙ zero-add _) (all .next ∙ zero-add _)),
+          (c .yes-or-no .ensures ∙ ap (λ (b : Bool). given b) (z .none-zero .ensures ∙ ap (λ (k : ℕ). noneOver k (a .bounds)) n))
+          (ap₂ (λ (x y : ℕ). (x, y)) (lines .put-lines .ensures .next ∙ zero-add _) (all .next ∙ zero-add _)),
       omega (arith, verdict .put-verdict .ensures .next),
       all,
     )

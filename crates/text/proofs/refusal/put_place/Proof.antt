@@ -59,7 +59,7 @@ same-length : tie.Need-same-length
 same-length c = search needs
 
 returns : tie.Need-returns
-returns c = 
+returns c =
     let colon = c .before .before in
     let number = colon .before .before .before .before .before in
     let word = number .before .before .before .before in
@@ -71,7 +71,7 @@ same-length-2 : tie.Need-same-length-2
 same-length-2 c = search needs
 
 returns-2 : tie.Need-returns-2
-returns-2 c = 
+returns-2 c =
     let colon = c .before .before in
     let number = colon .before .before .before .before .before in
     let word = number .before .before .before .before in

@@ -16,14 +16,14 @@ same-length : tie.Need-same-length
 same-length c = search needs
 
 returns : tie.Need-returns
-returns c = 
+returns c =
     let put = c .before .before in
     let i = put .before .before in
     let a = i .before .before .args in
     retold (put .put-place .ensures) (sym (ap (λ (b : Bool). cond b (placeText (a .naming) (a .lines) (a .place)) []) (lt-ltb _ _ (i .if1 .taken))))
 
 returns-2 : tie.Need-returns-2
-returns-2 c = 
+returns-2 c =
     let a = c .before .before .args in
     retold (widened 19 (nothing _ _) (omega arith)) (sym (ap (λ (b : Bool). cond b (placeText (a .naming) (a .lines) (a .place)) []) (le-ltb _ _ (c .if1 .left))))
 

@@ -30,7 +30,7 @@ put-byte-requires c κs = search needs
 
 returns : tie.Need-returns
 unfolding refusalText
-returns c = 
+returns c =
     let sentence = c .before .before in
     let place = sentence .before .before .before in
     let colon = place .before .before in

@@ -243,7 +243,7 @@ same-length : tie.Need-same-length
 same-length c = search needs
 
 returns : tie.Need-returns
-returns c = 
+returns c =
     let put = c .before .before in
     retold (widened 600 (put .put-filled .ensures) (omega arith)) (said _ (put .before .before .before .enum-told .given .1))
 
@@ -251,7 +251,7 @@ same-length-2 : tie.Need-same-length-2
 same-length-2 c = search needs
 
 returns-2 : tie.Need-returns-2
-returns-2 c = 
+returns-2 c =
     let put = c .before .before in
     retold (widened 600 (put .put-filled2 .ensures) (omega arith)) (said _ (put .before .before .before .enum-told2 .given .1))
 
@@ -259,7 +259,7 @@ same-length-3 : tie.Need-same-length-3
 same-length-3 c = search needs
 
 returns-3 : tie.Need-returns-3
-returns-3 c = 
+returns-3 c =
     let put = c .before .before in
     retold (widened 600 (put .put-filled3 .ensures) (omega arith)) (said _ (put .before .before .before .enum-told3 .given .1))
 
@@ -267,7 +267,7 @@ same-length-4 : tie.Need-same-length-4
 same-length-4 c = search needs
 
 returns-4 : tie.Need-returns-4
-returns-4 c = 
+returns-4 c =
     let put = c .before .before in
     retold (widened 600 (put .put-filled4 .ensures) (omega arith)) (said _ (put .before .before .before .enum-told4 .given .1))
 
@@ -275,7 +275,7 @@ same-length-5 : tie.Need-same-length-5
 same-length-5 c = search needs
 
 returns-5 : tie.Need-returns-5
-returns-5 c = 
+returns-5 c =
     let put = c .before .before in
     retold (widened 600 (put .put-filled5 .ensures) (omega arith)) (said _ (put .before .before .before .enum-told5 .given .1))
 
@@ -283,7 +283,7 @@ same-length-6 : tie.Need-same-length-6
 same-length-6 c = search needs
 
 returns-6 : tie.Need-returns-6
-returns-6 c = 
+returns-6 c =
     let put = c .before .before in
     retold (widened 600 (put .put-filled6 .ensures) (omega arith)) (said _ (put .before .before .before .enum-told6 .given .1))
 
@@ -291,7 +291,7 @@ same-length-7 : tie.Need-same-length-7
 same-length-7 c = search needs
 
 returns-7 : tie.Need-returns-7
-returns-7 c = 
+returns-7 c =
     let put = c .before .before in
     retold (widened 600 (put .put-filled7 .ensures) (omega arith)) (said _ (put .before .before .before .enum-told7 .given .1))
 
@@ -299,7 +299,7 @@ same-length-8 : tie.Need-same-length-8
 same-length-8 c = search needs
 
 returns-8 : tie.Need-returns-8
-returns-8 c = 
+returns-8 c =
     let put = c .before .before in
     retold (widened 600 (put .put-filled8 .ensures) (omega arith)) (said _ (put .before .before .before .enum-told8 .given .1))
 
@@ -307,7 +307,7 @@ same-length-9 : tie.Need-same-length-9
 same-length-9 c = search needs
 
 returns-9 : tie.Need-returns-9
-returns-9 c = 
+returns-9 c =
     let put = c .before .before in
     retold (widened 600 (put .put-filled9 .ensures) (omega arith)) (said _ (put .before .before .before .enum-told9 .given .1))
 
@@ -315,7 +315,7 @@ same-length-10 : tie.Need-same-length-10
 same-length-10 c = search needs
 
 returns-10 : tie.Need-returns-10
-returns-10 c = 
+returns-10 c =
     let put = c .before .before in
     retold (widened 600 (put .put-filled10 .ensures) (omega arith)) (said _ (put .before .before .before .enum-told10 .given .1))
 
@@ -323,7 +323,7 @@ same-length-11 : tie.Need-same-length-11
 same-length-11 c = search needs
 
 returns-11 : tie.Need-returns-11
-returns-11 c = 
+returns-11 c =
     let put = c .before .before in
     retold (widened 600 (put .put-filled11 .ensures) (omega arith)) (said _ (put .before .before .before .enum-told11 .given .1))
 
@@ -331,7 +331,7 @@ same-length-12 : tie.Need-same-length-12
 same-length-12 c = search needs
 
 returns-12 : tie.Need-returns-12
-returns-12 c = 
+returns-12 c =
     let put = c .before .before in
     retold (widened 600 (put .put-filled12 .ensures) (omega arith)) (said _ (put .before .before .before .enum-told12 .given .1))
 
@@ -339,7 +339,7 @@ same-length-13 : tie.Need-same-length-13
 same-length-13 c = search needs
 
 returns-13 : tie.Need-returns-13
-returns-13 c = 
+returns-13 c =
     let put = c .before .before in
     retold (widened 600 (put .put-filled13 .ensures) (omega arith)) (said _ (put .before .before .before .enum-told13 .given .1))
 
@@ -347,7 +347,7 @@ same-length-14 : tie.Need-same-length-14
 same-length-14 c = search needs
 
 returns-14 : tie.Need-returns-14
-returns-14 c = 
+returns-14 c =
     let put = c .before .before in
     retold (widened 600 (put .put-filled14 .ensures) (omega arith)) (said _ (put .before .before .before .enum-told14 .given .1))
 
@@ -355,7 +355,7 @@ same-length-15 : tie.Need-same-length-15
 same-length-15 c = search needs
 
 returns-15 : tie.Need-returns-15
-returns-15 c = 
+returns-15 c =
     let put = c .before .before in
     retold (widened 600 (put .put-filled15 .ensures) (omega arith)) (said _ (put .before .before .before .enum-told15 .given .1))
 
@@ -363,7 +363,7 @@ same-length-16 : tie.Need-same-length-16
 same-length-16 c = search needs
 
 returns-16 : tie.Need-returns-16
-returns-16 c = 
+returns-16 c =
     let put = c .before .before in
     retold (widened 600 (put .put-filled16 .ensures) (omega arith)) (said _ (put .before .before .before .enum-told16 .given .1))
 
@@ -371,7 +371,7 @@ same-length-17 : tie.Need-same-length-17
 same-length-17 c = search needs
 
 returns-17 : tie.Need-returns-17
-returns-17 c = 
+returns-17 c =
     let put = c .before .before in
     retold (widened 600 (put .put-filled17 .ensures) (omega arith)) (said _ (put .before .before .before .enum-told17 .given .1))
 
@@ -379,7 +379,7 @@ same-length-18 : tie.Need-same-length-18
 same-length-18 c = search needs
 
 returns-18 : tie.Need-returns-18
-returns-18 c = 
+returns-18 c =
     let put = c .before .before in
     retold (widened 600 (put .put-filled18 .ensures) (omega arith)) (said _ (put .before .before .before .enum-told18 .given .1))
 
@@ -387,7 +387,7 @@ same-length-19 : tie.Need-same-length-19
 same-length-19 c = search needs
 
 returns-19 : tie.Need-returns-19
-returns-19 c = 
+returns-19 c =
     let put = c .before .before in
     retold (widened 600 (put .put-filled19 .ensures) (omega arith)) (said _ (put .before .before .before .enum-told19 .given .1))
 
@@ -395,7 +395,7 @@ same-length-20 : tie.Need-same-length-20
 same-length-20 c = search needs
 
 returns-20 : tie.Need-returns-20
-returns-20 c = 
+returns-20 c =
     let put = c .before .before in
     retold (widened 600 (put .put-filled20 .ensures) (omega arith)) (said _ (put .before .before .before .enum-told20 .given .1))
 
@@ -403,7 +403,7 @@ same-length-21 : tie.Need-same-length-21
 same-length-21 c = search needs
 
 returns-21 : tie.Need-returns-21
-returns-21 c = 
+returns-21 c =
     let put = c .before .before in
     retold (widened 600 (put .put-filled21 .ensures) (omega arith)) (said _ (put .before .before .before .enum-told21 .given .1))
 
@@ -411,7 +411,7 @@ same-length-22 : tie.Need-same-length-22
 same-length-22 c = search needs
 
 returns-22 : tie.Need-returns-22
-returns-22 c = 
+returns-22 c =
     let put = c .before .before in
     retold (widened 600 (put .put-filled22 .ensures) (omega arith)) (said _ (put .before .before .before .enum-told22 .given .1))
 
@@ -419,7 +419,7 @@ same-length-23 : tie.Need-same-length-23
 same-length-23 c = search needs
 
 returns-23 : tie.Need-returns-23
-returns-23 c = 
+returns-23 c =
     let put = c .before .before in
     retold (widened 600 (put .put-filled23 .ensures) (omega arith)) (said _ (put .before .before .before .enum-told23 .given .1))
 
@@ -427,7 +427,7 @@ same-length-24 : tie.Need-same-length-24
 same-length-24 c = search needs
 
 returns-24 : tie.Need-returns-24
-returns-24 c = 
+returns-24 c =
     let put = c .before .before in
     retold (widened 600 (put .put-filled24 .ensures) (omega arith)) (said _ (put .before .before .before .enum-told24 .given .1))
 
@@ -435,7 +435,7 @@ same-length-25 : tie.Need-same-length-25
 same-length-25 c = search needs
 
 returns-25 : tie.Need-returns-25
-returns-25 c = 
+returns-25 c =
     let put = c .before .before in
     retold (widened 600 (put .put-filled25 .ensures) (omega arith)) (said _ (put .before .before .before .enum-told25 .given .1))
 

@@ -1,0 +1,54 @@
+-- What the words of a command mean. Assumes nothing.
+use Prim.Native.Nat.{ℕ, _+_, _%_}
+use mathlib.Core.Bool.{Bool, true, cond, _&&_, _||_}
+use mathlib.Core.List.{List, [], _∷_}
+use lib.Dec.{eqb, leb, ltb}
+use lib.ListN.{length, getD, take, drop}
+use Rattle.same_bytes.specs.Same.{sameBytes}
+use Rattle.lists.specs.declared.words.Mark.the-variants.{Hyphen}
+use Rattle.lists.specs.declared.words.WordAnswer.{WordAnswer}
+use Rattle.lists.specs.declared.words.WordAnswer.the-variants.{Number, Wrong}
+use Rattle.lists.specs.Words.{isMark, before, numberOf}
+use Rattle.command.specs.declared.Word.{Word}
+use Rattle.command.specs.declared.Word.the-variants.{Key, Mark, Bounds, Block, Text, Help, Unknown}
+use Rattle.command.specs.declared.Argument.{Argument}
+use Rattle.command.specs.declared.Argument.the-variants.{Quanta, Blocks, Configuration, End, UnknownOption, Name}
+use Rattle.command.specs.declared.span.Span.{Span}
+use Rattle.command.specs.declared.span.Span.the-variants.{Quanta as SpanQuanta, Wrong as SpanWrong}
+
+-- `key`, `mark`, `bounds`, `block`, `text` and `help`.
+unfoldable pub wordOf : List ℕ → Word
+wordOf argument =
+    cond (sameBytes argument (107 ∷ 101 ∷ 121 ∷ [])) Key
+    (cond (sameBytes argument (109 ∷ 97 ∷ 114 ∷ 107 ∷ [])) Mark
+    (cond (sameBytes argument (98 ∷ 111 ∷ 117 ∷ 110 ∷ 100 ∷ 115 ∷ [])) Bounds
+    (cond (sameBytes argument (98 ∷ 108 ∷ 111 ∷ 99 ∷ 107 ∷ [])) Block
+    (cond (sameBytes argument (116 ∷ 101 ∷ 120 ∷ 116 ∷ [])) Text
+    (cond (sameBytes argument (104 ∷ 101 ∷ 108 ∷ 112 ∷ [])) Help Unknown)))))
+
+-- It begins with two hyphens.
+unfoldable pub isOption : List ℕ → Bool
+isOption argument = leb 2 (length argument) && (eqb (getD argument 0 0) 45 && eqb (getD argument 1 0) 45)
+
+-- `--quanta`, `--block`, `--configuration` and `--`; what else begins with two hyphens is an option that there is not.
+unfoldable pub argumentOf : List ℕ → Argument
+argumentOf argument =
+    cond (sameBytes argument (45 ∷ 45 ∷ 113 ∷ 117 ∷ 97 ∷ 110 ∷ 116 ∷ 97 ∷ [])) Quanta
+    (cond (sameBytes argument (45 ∷ 45 ∷ 98 ∷ 108 ∷ 111 ∷ 99 ∷ 107 ∷ [])) Blocks
+    (cond (sameBytes argument (45 ∷ 45 ∷ 99 ∷ 111 ∷ 110 ∷ 102 ∷ 105 ∷ 103 ∷ 117 ∷ 114 ∷ 97 ∷ 116 ∷ 105 ∷ 111 ∷ 110 ∷ [])) Configuration
+    (cond (sameBytes argument (45 ∷ 45 ∷ [])) End (cond (isOption argument) UnknownOption Name))))
+
+-- A range as a word: two numbers of a byte each, with a hyphen between.
+abbrev pub pairOf : WordAnswer → WordAnswer → Span
+pairOf (Number low) (Number high) = SpanQuanta (low % 256) (high % 256)
+pairOf (Number low) (Wrong fault) = SpanWrong
+pairOf (Wrong fault) high = SpanWrong
+
+unfoldable pub spanOf : List ℕ → Span
+spanOf word =
+    let hyphen = length (before (isMark Hyphen) word) in
+    cond (eqb hyphen 0 || leb (length word) (hyphen + 1)) SpanWrong (pairOf (numberOf 1 64 255 (take hyphen word)) (numberOf 2 64 255 (drop (hyphen + 1) word)))
+
+-- A byte of a name as it is shown: a control byte as a question mark.
+abbrev pub shownByte : ℕ → ℕ
+shownByte byte = cond (ltb byte 32 || eqb byte 127) 63 byte

@@ -1,0 +1,188 @@
+// What the arguments after the word ask for.
+use crate::say;
+use command::Argument;
+use command::span::Span;
+
+// The options and the names. What is wrong has been said where it is faulty. The first and the second name are the arguments of these
+// numbers; `inputs` counts those that are standard input; `awaits` is set before the range that follows its option, and `ended` after the
+// end of the options.
+pub struct Asked {
+    pub faulty: bool,
+    pub awaits: bool,
+    pub ended: bool,
+    pub ranged: bool,
+    pub low: u8,
+    pub high: u8,
+    pub blocks: bool,
+    pub configuration: bool,
+    pub names: u32,
+    pub first: usize,
+    pub second: usize,
+    pub inputs: u32,
+}
+
+// The most arguments that are looked at, which no system hands over.
+pub const MOST: usize = 1000000000;
+
+pub fn nothing() -> Asked {
+    Asked {
+        faulty: false,
+        awaits: false,
+        ended: false,
+        ranged: false,
+        low: 1,
+        high: 4,
+        blocks: false,
+        configuration: false,
+        names: 0,
+        first: 0,
+        second: 0,
+        inputs: 0,
+    }
+}
+
+fn with_fault(asked: Asked, text: &[u8]) -> Asked {
+    let mut next = asked;
+    if !next.faulty {
+        say::message(b"ruzhtylen: ");
+        say::message(text);
+    }
+    next.faulty = true;
+    next
+}
+
+fn with_range(asked: Asked, word: &[u8]) -> Asked {
+    let mut next = asked;
+    next.awaits = false;
+    let span = command::span::read_span(word);
+    match span {
+        Span::Quanta(low, high) => {
+            next.ranged = true;
+            next.low = low;
+            next.high = high;
+            next
+        }
+        Span::Wrong => with_fault(
+            next,
+            b"--quanta takes the lowest and the highest quantum with a hyphen between, as 1-4\n",
+        ),
+    }
+}
+
+// One more, short of the largest.
+fn more(n: u32) -> u32 {
+    if n < 4294967295 { n + 1 } else { n }
+}
+
+fn with_name(asked: Asked, i: usize, word: &[u8]) -> Asked {
+    let mut next = asked;
+    if next.names == 0 {
+        next.first = i;
+    }
+    if next.names == 1 {
+        next.second = i;
+    }
+    next.names = more(next.names);
+    if word.len() == 0 {
+        return with_fault(next, b"a file's name is empty\n");
+    }
+    if same_bytes::same_bytes(word, b"-") {
+        next.inputs = more(next.inputs);
+    }
+    next
+}
+
+fn with_option(asked: Asked, argument: Argument) -> Asked {
+    let mut next = asked;
+    match argument {
+        Argument::Quanta => {
+            next.awaits = true;
+            next
+        }
+        Argument::Blocks => {
+            next.blocks = true;
+            next
+        }
+        Argument::Configuration => {
+            next.configuration = true;
+            next
+        }
+        Argument::End => {
+            next.ended = true;
+            next
+        }
+        Argument::UnknownOption => with_fault(
+            next,
+            b"an option is none of --quanta, --block and --configuration; after -- a name may begin with --\n",
+        ),
+        Argument::Name => next,
+    }
+}
+
+fn is_name(argument: Argument) -> bool {
+    match argument {
+        Argument::Quanta => false,
+        Argument::Blocks => false,
+        Argument::Configuration => false,
+        Argument::End => false,
+        Argument::UnknownOption => false,
+        Argument::Name => true,
+    }
+}
+
+fn with_word(asked: Asked, i: usize, word: &[u8]) -> Asked {
+    if asked.awaits {
+        return with_range(asked, word);
+    }
+    if asked.ended {
+        return with_name(asked, i, word);
+    }
+    let argument = command::argument_of(word);
+    if is_name(argument) {
+        return with_name(asked, i, word);
+    }
+    with_option(asked, argument)
+}
+
+// What is asked with argument i too.
+pub fn with_argument(asked: Asked, i: usize) -> Asked {
+    let mut word = io::buffer();
+    let length = os::arg(i, &mut word);
+    if os::errno() != 0 {
+        return with_fault(asked, b"an argument is longer than 4096 bytes\n");
+    }
+    with_word(asked, i, &word[..length])
+}
+
+// How many arguments there are.
+pub fn count() -> usize {
+    let count = os::arg_count();
+    if count < MOST { count } else { MOST }
+}
+
+// What all arguments after the word ask for.
+pub fn read() -> Asked {
+    let count = count();
+    let mut asked = nothing();
+    let mut i = 2;
+    while i < count {
+        let next = with_argument(asked, i);
+        asked = next;
+        i += 1;
+    }
+    if asked.awaits {
+        return with_fault(asked, b"--quanta needs a range after it, as 1-4\n");
+    }
+    if 1 < asked.inputs {
+        return with_fault(asked, b"standard input can be read only once\n");
+    }
+    asked
+}
+
+// Whether the argument between the two is a name, and not the first one.
+pub fn is_later_name(before: Asked, after: Asked) -> bool {
+    if before.names == 0 {
+        return false;
+    }
+    before.names < after.names
+}

@@ -1,0 +1,135 @@
+// The program behind the command: it reads the files that the arguments name, asks, and writes. Answers go to standard output, messages to
+// standard error, and the status, a digit, to descriptor 3.
+mod asked;
+mod files;
+mod help;
+mod marking;
+mod quanta;
+mod refused;
+mod say;
+mod slices;
+mod source;
+mod texts;
+mod words;
+
+use asked::Asked;
+use command::Word;
+use libc::STDERR_FILENO;
+use libc::STDOUT_FILENO;
+
+fn wrong(text: &[u8]) -> u8 {
+    say::message(b"ruzhtylen: ");
+    say::message(text);
+    say::NOT_ANSWERED
+}
+
+fn key(asked: Asked) -> u8 {
+    if asked.configuration {
+        return wrong(b"--configuration is an option of block and text\n");
+    }
+    if asked.names != 1 {
+        return wrong(b"key takes one LIST; 'ruzhtylen help key' says more\n");
+    }
+    words::key(asked)
+}
+
+fn mark(asked: Asked) -> u8 {
+    if asked.configuration {
+        return wrong(b"--configuration is an option of block and text\n");
+    }
+    if asked.names < 2 {
+        return wrong(b"mark takes a LIST and a HAND-IN or more; 'ruzhtylen help mark' says more\n");
+    }
+    marking::mark(asked)
+}
+
+fn bounds(asked: Asked) -> u8 {
+    if asked.configuration {
+        return wrong(b"--configuration is an option of block and text\n");
+    }
+    if asked.names != 2 {
+        return wrong(
+            b"bounds takes a LIST and a CONFIGURATION; 'ruzhtylen help bounds' says more\n",
+        );
+    }
+    words::bounds(asked)
+}
+
+fn change_form(asked: Asked, to_block: bool) -> u8 {
+    if asked.ranged {
+        return wrong(b"--quanta is an option of key, mark and bounds\n");
+    }
+    if asked.blocks {
+        return wrong(b"--block is an option of key, mark and bounds\n");
+    }
+    if asked.names != 1 {
+        return wrong(b"block and text take one FILE; 'ruzhtylen help block' says more\n");
+    }
+    if to_block {
+        return words::block(asked);
+    }
+    texts::text(asked)
+}
+
+// The word that is argument i; an unknown one where there is none.
+fn word_at(i: usize) -> Word {
+    let mut argument = io::buffer();
+    let length = os::arg(i, &mut argument);
+    command::word_of(&argument[..length])
+}
+
+fn say_help() -> u8 {
+    let word = word_at(2);
+    if help::help(STDOUT_FILENO, word) {
+        return say::YES;
+    }
+    os::fail(b"standard output");
+    say::NOT_ANSWERED
+}
+
+fn unknown() -> u8 {
+    if 1 < asked::count() {
+        return wrong(b"the first word is none of key, mark, bounds, block, text and help\n");
+    }
+    help::help(STDERR_FILENO, Word::Unknown);
+    say::NOT_ANSWERED
+}
+
+// Answers a word with its arguments, and gives the status.
+fn answer(word: Word, asked: Asked) -> u8 {
+    if asked.faulty {
+        return say::NOT_ANSWERED;
+    }
+    match word {
+        Word::Key => key(asked),
+        Word::Mark => mark(asked),
+        Word::Bounds => bounds(asked),
+        Word::Block => change_form(asked, true),
+        Word::Text => change_form(asked, false),
+        Word::Help => say_help(),
+        Word::Unknown => unknown(),
+    }
+}
+
+// Whether the arguments after the word are options and names.
+fn takes_files(word: Word) -> bool {
+    match word {
+        Word::Key => true,
+        Word::Mark => true,
+        Word::Bounds => true,
+        Word::Block => true,
+        Word::Text => true,
+        Word::Help => false,
+        Word::Unknown => false,
+    }
+}
+
+fn main() {
+    let word = word_at(1);
+    let asked = if takes_files(word) {
+        asked::read()
+    } else {
+        asked::nothing()
+    };
+    say::status(answer(word, asked));
+}

@@ -1,0 +1,62 @@
+// Refusals, said of the file that is refused.
+use crate::quanta::Quanta;
+use crate::say;
+use crate::slices;
+use crate::source::Source;
+use reasons::reason::Reason;
+use records::job::Job;
+
+// Says a refusal of the file that is argument i.
+fn say_refusal(i: usize, number: u8, source: Source, reason: Reason) -> u8 {
+    let naming = source.naming;
+    let lines = source.lines;
+    let mut output = [0u8; text::refusal::SIZE];
+    let length = text::refusal::put_refusal(number, naming, lines, reason, &mut output);
+    say::about(i, &output[..length]);
+    say::NOT_ANSWERED
+}
+
+// Says why a list or the range is refused; the list is argument i.
+pub fn refuse_list(i: usize, list: Source, quanta: Quanta, number: u8) -> u8 {
+    let bytes = list.bytes;
+    let kept = slices::within(list.kept, &bytes);
+    let jobs = records::block::read_unjudged(&bytes[..kept]);
+    let reason = reasons::list::list_reason(
+        number,
+        list.size,
+        jobs,
+        kept / Job::SIZE,
+        quanta.low,
+        quanta.high,
+    );
+    say_refusal(i, number, list, reason)
+}
+
+// Says why a configuration is refused for a list and a range that are accepted; the configuration is argument i.
+pub fn refuse_hand_in(i: usize, hand_in: Source, list: Source, quanta: Quanta, number: u8) -> u8 {
+    let jobs = list.bytes;
+    let jobs_kept = slices::within(list.kept, &jobs);
+    let bytes = hand_in.bytes;
+    let kept = slices::within(hand_in.kept, &bytes);
+    let call = records::call::read_call(&jobs[..jobs_kept], quanta.low, quanta.high);
+    let settings = configuration::block::read_unjudged(&bytes[..kept]);
+    let table = call.table;
+    let range = call.range;
+    let reason = reasons::hand_in::hand_in_reason(
+        number,
+        hand_in.size,
+        table,
+        settings,
+        jobs_kept / Job::SIZE,
+        range,
+    );
+    say_refusal(i, number, hand_in, reason)
+}
+
+// Says why a configuration and its list, the arguments i and k, are refused: refusals up to 6 are the list's and the range's.
+pub fn refuse(i: usize, k: usize, list: Source, hand_in: Source, quanta: Quanta, number: u8) -> u8 {
+    if number < 7 {
+        return refuse_list(i, list, quanta, number);
+    }
+    refuse_hand_in(k, hand_in, list, quanta, number)
+}

@@ -1,0 +1,166 @@
+// A list or a configuration as it was handed in: its block, and how its records are named. A block is taken as it is; a text is read, and
+// its block is not judged.
+ghost use Prim.Native.Nat.{_≤_};
+ghost use lib.ListN.{length};
+use crate::files;
+use crate::say;
+use crate::slices;
+use lists::fault::Fault;
+use lists::fields::Form;
+use lists::fields::Row;
+use lists::rows::RowsAnswer;
+use records::job::Job;
+use records::refusal::Counted;
+use text::refusal::Naming;
+
+// A byte more than the longest block, so that a longer one shows.
+pub const SIZE: usize = 65;
+
+// The block's first bytes and how many they are; the size of the whole; how its records are named; and the range that a list says. Where it
+// is not ok, why has been said.
+pub struct Source {
+    pub ok: bool,
+    pub bytes: [u8; SIZE],
+    pub kept: usize,
+    pub size: u32,
+    pub naming: Naming,
+    pub lines: [u32; Job::MOST],
+    pub ranged: bool,
+    pub low: u8,
+    pub high: u8,
+}
+
+fn failed() -> Source {
+    Source {
+        ok: false,
+        bytes: [0u8; SIZE],
+        kept: 0,
+        size: 0,
+        naming: Naming::Record,
+        lines: [0u32; Job::MOST],
+        ranged: false,
+        low: 0,
+        high: 0,
+    }
+}
+
+fn at_most(n: usize, most: usize) -> usize
+    ensures { λ r. ⌜ (r ≤ n) × (r ≤ most) ⌝ }
+{
+    if n < most { n } else { most }
+}
+
+// The first bytes of a block.
+fn first_bytes(block: &[u8], kept: usize) -> [u8; SIZE]
+    requires { ⌜ (kept ≤ length (now block)) × (kept ≤ 65) ⌝ }
+{
+    let mut bytes = [0u8; SIZE];
+    let mut i = 0;
+    while i < kept {
+        bytes[i] = block[i];
+        i += 1;
+    }
+    bytes
+}
+
+fn of_block(block: &[u8]) -> Source {
+    let kept = at_most(block.len(), SIZE);
+    Source {
+        ok: true,
+        bytes: first_bytes(block, kept),
+        kept,
+        size: at_most(block.len(), files::SIZE) as u32,
+        naming: Naming::Record,
+        lines: [0u32; Job::MOST],
+        ranged: false,
+        low: 0,
+        high: 0,
+    }
+}
+
+// The numbers of the lines, which a text that is read has fewer of than a number of 32 bits counts.
+fn line_numbers(at: [usize; Job::MOST]) -> [u32; Job::MOST] {
+    let mut lines = [0u32; Job::MOST];
+    let mut i = 0;
+    while i < Job::MOST {
+        lines[i] = (at[i] % 4294967296) as u32;
+        i += 1;
+    }
+    lines
+}
+
+// Writes the records of the first n rows to the bytes, and gives their size.
+fn put_rows(form: Form, rows: [Row; Job::MOST], n: usize, bytes: &mut [u8]) -> Counted {
+    match form {
+        Form::Job => records::block::write_unjudged(
+            lists::tables::jobs_from(rows, n),
+            n,
+            &mut *bytes,
+        ),
+        Form::Setting => {
+            configuration::block::write_settings(
+                lists::tables::settings_from(rows, n),
+                n,
+                &mut *bytes,
+            )
+        }
+        Form::Quanta => Counted::Count(0),
+    }
+}
+
+fn size_of(wrote: Counted) -> usize
+    ensures { λ r. ⌜ r ≤ 65 ⌝ }
+{
+    match wrote {
+        Counted::Count(size) => at_most(size, SIZE),
+        Counted::Refused(_) => 0,
+    }
+}
+
+fn say_fault(i: usize, line: usize, fault: Fault) {
+    let mut output = [0u8; text::fault::SIZE];
+    let length = text::fault::put_fault((line % 4294967296) as u32, fault, &mut output);
+    say::about(i, &output[..length]);
+}
+
+fn of_text(i: usize, form: Form, content: &[u8]) -> Source {
+    let read = lists::rows::read_rows(form, content);
+    let answer = read.answer;
+    let count = match answer {
+        RowsAnswer::Rows(count) => count,
+        RowsAnswer::Faulty(line, fault) => {
+            say_fault(i, line, fault);
+            return failed();
+        }
+    };
+    let rows = read.rows;
+    let at = read.at;
+    let mut bytes = [0u8; SIZE];
+    let wrote = put_rows(form, rows, count, &mut bytes);
+    let kept = size_of(wrote);
+    Source {
+        ok: true,
+        bytes,
+        kept,
+        size: kept as u32,
+        naming: Naming::Line,
+        lines: line_numbers(at),
+        ranged: read.ranged,
+        low: (read.low % 256) as u8,
+        high: (read.high % 256) as u8,
+    }
+}
+
+// The list or the configuration in the file that is argument i.
+pub fn load(i: usize, form: Form, is_block: bool) -> Source {
+    let mut content = files::room();
+    let got = files::read(i, &mut content);
+    if !got.ok {
+        return failed();
+    }
+    let count = slices::within(got.count, &content);
+    if is_block {
+        return of_block(&content[..count]);
+    }
+    of_text(i, form, &content[..count])
+}

@@ -1,0 +1,104 @@
+// What each word does with its files. Each function gives the status.
+use crate::asked::Asked;
+use crate::quanta;
+use crate::quanta::Quanta;
+use crate::refused;
+use crate::say;
+use crate::slices;
+use crate::source;
+use crate::source::Source;
+use lists::fields::Form;
+use text::answer::Answered;
+
+// The key of a list.
+pub fn key(asked: Asked) -> u8 {
+    let list = source::load(asked.first, Form::Job, asked.blocks);
+    if !list.ok {
+        return say::NOT_ANSWERED;
+    }
+    let quanta = quanta::quanta_of(asked, list);
+    let bytes = list.bytes;
+    let kept = slices::within(list.kept, &bytes);
+    let mut output = [0u8; text::key::SIZE];
+    let keyed = text::key::answer_key(&bytes[..kept], quanta.low, quanta.high, &mut output);
+    let length = keyed.length;
+    let answer = keyed.answer;
+    match answer {
+        Answered::Yes => say::answer(say::YES, &output[..length]),
+        Answered::No => say::answer(say::NO, &output[..length]),
+        Answered::Refused(refusal) => {
+            refused::refuse_list(asked.first, list, quanta, refusal.number())
+        }
+    }
+}
+
+// The bounds of a configuration.
+fn bounds_of(asked: Asked, list: Source, quanta: Quanta, hand_in: Source) -> u8 {
+    let jobs = list.bytes;
+    let jobs_kept = slices::within(list.kept, &jobs);
+    let bytes = hand_in.bytes;
+    let kept = slices::within(hand_in.kept, &bytes);
+    let mut output = [0u8; text::key::SIZE];
+    let told = text::marks::bounds(
+        &jobs[..jobs_kept],
+        quanta.low,
+        quanta.high,
+        &bytes[..kept],
+        &mut output,
+    );
+    let length = told.length;
+    let answer = told.answer;
+    match answer {
+        Answered::Yes => say::answer(say::YES, &output[..length]),
+        Answered::No => say::answer(say::NO, &output[..length]),
+        Answered::Refused(refusal) => {
+            refused::refuse(
+                asked.first,
+                asked.second,
+                list,
+                hand_in,
+                quanta,
+                refusal.number(),
+            )
+        }
+    }
+}
+
+pub fn bounds(asked: Asked) -> u8 {
+    let list = source::load(asked.first, Form::Job, asked.blocks);
+    if !list.ok {
+        return say::NOT_ANSWERED;
+    }
+    let hand_in = source::load(asked.second, Form::Setting, asked.blocks);
+    if !hand_in.ok {
+        return say::NOT_ANSWERED;
+    }
+    let quanta = quanta::quanta_of(asked, list);
+    bounds_of(asked, list, quanta, hand_in)
+}
+
+// The block of a text.
+pub fn block(asked: Asked) -> u8 {
+    let form = form_of(asked);
+    let source = source::load(asked.first, form, false);
+    if !source.ok {
+        return say::NOT_ANSWERED;
+    }
+    if source.ranged {
+        say::about(
+            asked.first,
+            b"note: a block does not hold the range of the line quanta\n",
+        );
+    }
+    let bytes = source.bytes;
+    let kept = slices::within(source.kept, &bytes);
+    say::answer(say::YES, &bytes[..kept])
+}
+
+fn form_of(asked: Asked) -> Form {
+    if asked.configuration {
+        Form::Setting
+    } else {
+        Form::Job
+    }
+}
