@@ -96,6 +96,9 @@ fn with_option(asked: Asked, argument: Argument) -> Asked {
     let mut next = asked;
     match argument {
         Argument::Quanta => {
+            if next.ranged {
+                return with_fault(next, b"--quanta is given twice\n");
+            }
             next.awaits = true;
             next
         }

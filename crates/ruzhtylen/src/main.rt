@@ -78,8 +78,37 @@ fn word_at(i: usize) -> Word {
     command::word_of(&argument[..length])
 }
 
+// That argument i is no word.
+fn unknown(i: usize) -> u8 {
+    say::message(b"ruzhtylen: unknown word ");
+    say::argument(STDERR_FILENO, i);
+    say::message(b"; 'ruzhtylen help' lists the words\n");
+    say::NOT_ANSWERED
+}
+
+fn is_unknown(word: Word) -> bool {
+    match word {
+        Word::Key => false,
+        Word::Mark => false,
+        Word::Bounds => false,
+        Word::Block => false,
+        Word::Text => false,
+        Word::Help => false,
+        Word::Unknown => true,
+    }
+}
+
 fn say_help() -> u8 {
+    let count = asked::count();
+    if 3 < count {
+        return wrong(b"help takes one WORD or none\n");
+    }
     let word = word_at(2);
+    if count == 3 {
+        if is_unknown(word) {
+            return unknown(2);
+        }
+    }
     if help::help(STDOUT_FILENO, word) {
         return say::YES;
     }
@@ -87,9 +116,10 @@ fn say_help() -> u8 {
     say::NOT_ANSWERED
 }
 
-fn unknown() -> u8 {
+// Without a word all words are told.
+fn no_word() -> u8 {
     if 1 < asked::count() {
-        return wrong(b"the first word is none of key, mark, bounds, block, text and help\n");
+        return unknown(1);
     }
     help::help(STDERR_FILENO, Word::Unknown);
     say::NOT_ANSWERED
@@ -107,7 +137,7 @@ fn answer(word: Word, asked: Asked) -> u8 {
         Word::Block => change_form(asked, true),
         Word::Text => change_form(asked, false),
         Word::Help => say_help(),
-        Word::Unknown => unknown(),
+        Word::Unknown => no_word(),
     }
 }
 

@@ -85,6 +85,9 @@ fn mark_all(asked: Asked, list: Source, quanta: Quanta) -> u8 {
         if asked::is_later_name(seen, next) {
             status = say::worse(status, mark_one(i, alone, is_block, list, quanta));
         }
+        if status == say::NOT_WRITTEN {
+            return status;
+        }
         seen = next;
         i += 1;
     }

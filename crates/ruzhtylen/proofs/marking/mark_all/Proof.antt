@@ -30,6 +30,9 @@ mark-one-requires c κs = search needs
 worse-requires : tie.Need-worse-requires Inv-loop μ-loop
 worse-requires c κs = search needs
 
+returns : tie.Need-returns Inv-loop μ-loop
+returns c = search needs
+
 add-i : tie.Need-add-i Inv-loop μ-loop
 add-i c = search needs
 
@@ -39,8 +42,8 @@ loop-less c = search needs
 loop-again : tie.Need-loop-again Inv-loop μ-loop
 loop-again c = tt
 
-returns : tie.Need-returns Inv-loop μ-loop
-returns c = search needs
+returns-2 : tie.Need-returns-2 Inv-loop μ-loop
+returns-2 c = search needs
 
 pub mark-all-spec : {M : Type 1} → statement M
 mark-all-spec =
@@ -55,7 +58,8 @@ mark-all-spec =
     is-later-name-requires
     mark-one-requires
     worse-requires
+    returns
     add-i
     loop-less
     loop-again
-    returns)
+    returns-2)
