@@ -1,4 +1,4 @@
-/* Ruzhtylen's entries for callers in C: link target/staticlib/libcapi.a, which `rt staticlib capi` writes.
+/* Ruzhtylen's entries for callers in C: link target/staticlib/libcapi.a, which `rt staticlib capi` writes, or an installed libruzhtylen.a.
    A slice is a pointer and its length. Blocks are those of the scope document, two-byte numbers with the high byte first; the second
    byte of a job record is the job's delay.
    Any input gets an answer. Byte 0 of a 32-bit answer, its lowest, is the refusal's number, 0 for none; a refusal changes nothing lent.

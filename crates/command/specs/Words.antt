@@ -10,13 +10,14 @@ use Rattle.lists.specs.declared.words.WordAnswer.{WordAnswer}
 use Rattle.lists.specs.declared.words.WordAnswer.the-variants.{Number, Wrong}
 use Rattle.lists.specs.Words.{isMark, before, numberOf}
 use Rattle.command.specs.declared.Word.{Word}
-use Rattle.command.specs.declared.Word.the-variants.{Key, Mark, Bounds, Block, Text, Help, Unknown}
+use Rattle.command.specs.declared.Word.the-variants.{Key, Mark, Bounds, Block, Text, Install, Help, Unknown}
 use Rattle.command.specs.declared.Argument.{Argument}
 use Rattle.command.specs.declared.Argument.the-variants.{Quanta, Blocks, Configuration, End, UnknownOption, Name}
+use Rattle.command.specs.declared.span.Quanta.{Quanta as Chosen}
 use Rattle.command.specs.declared.span.Span.{Span}
 use Rattle.command.specs.declared.span.Span.the-variants.{Quanta as SpanQuanta, Wrong as SpanWrong}
 
--- `key`, `mark`, `bounds`, `block`, `text` and `help`.
+-- `key`, `mark`, `bounds`, `block`, `text`, `install` and `help`, which is `--help` and `-h` too.
 unfoldable pub wordOf : List ℕ → Word
 wordOf argument =
     cond (sameBytes argument (107 ∷ 101 ∷ 121 ∷ [])) Key
@@ -24,7 +25,10 @@ wordOf argument =
     (cond (sameBytes argument (98 ∷ 111 ∷ 117 ∷ 110 ∷ 100 ∷ 115 ∷ [])) Bounds
     (cond (sameBytes argument (98 ∷ 108 ∷ 111 ∷ 99 ∷ 107 ∷ [])) Block
     (cond (sameBytes argument (116 ∷ 101 ∷ 120 ∷ 116 ∷ [])) Text
-    (cond (sameBytes argument (104 ∷ 101 ∷ 108 ∷ 112 ∷ [])) Help Unknown)))))
+    (cond (sameBytes argument (105 ∷ 110 ∷ 115 ∷ 116 ∷ 97 ∷ 108 ∷ 108 ∷ [])) Install
+    (cond (sameBytes argument (104 ∷ 101 ∷ 108 ∷ 112 ∷ [])) Help
+    (cond (sameBytes argument (45 ∷ 45 ∷ 104 ∷ 101 ∷ 108 ∷ 112 ∷ [])) Help
+    (cond (sameBytes argument (45 ∷ 104 ∷ [])) Help Unknown))))))))
 
 -- It begins with two hyphens.
 unfoldable pub isOption : List ℕ → Bool
@@ -48,6 +52,10 @@ unfoldable pub spanOf : List ℕ → Span
 spanOf word =
     let hyphen = length (before (isMark Hyphen) word) in
     cond (eqb hyphen 0 || leb (length word) (hyphen + 1)) SpanWrong (pairOf (numberOf 1 64 255 (take hyphen word)) (numberOf 2 64 255 (drop (hyphen + 1) word)))
+
+-- The range of a call: the option's, else the list's, else 1 to 4.
+unfoldable pub chosen : Bool → Chosen → Bool → Chosen → Chosen
+chosen optioned option listed list = cond optioned option (cond listed list (record { low = 1; high = 4 }))
 
 -- A byte of a name as it is shown: a control byte as a question mark.
 abbrev pub shownByte : ℕ → ℕ

@@ -13,6 +13,7 @@ pub enum Word {
     Bounds,
     Block,
     Text,
+    Install,
     Help,
     Unknown,
 }
@@ -46,7 +47,16 @@ pub fn word_of(argument: &[u8]) -> Word
     if same_bytes(argument, b"text") {
         return Word::Text;
     }
+    if same_bytes(argument, b"install") {
+        return Word::Install;
+    }
     if same_bytes(argument, b"help") {
+        return Word::Help;
+    }
+    if same_bytes(argument, b"--help") {
+        return Word::Help;
+    }
+    if same_bytes(argument, b"-h") {
         return Word::Help;
     }
     Word::Unknown

@@ -1,6 +1,6 @@
-// A range as a word: two numbers with a hyphen between.
+// Ranges: one as a word, two numbers with a hyphen between, and which one a call has.
 ghost use mathlib.Core.Path.{_≡_};
-ghost use Rattle.command.specs.Words.{pairOf, spanOf};
+ghost use Rattle.command.specs.Words.{pairOf, spanOf, chosen};
 use lists::words;
 use lists::words::Mark;
 use lists::words::WordAnswer;
@@ -37,4 +37,23 @@ pub fn read_span(word: &[u8]) -> Span
     let low = words::read_number(&word[..hyphen], 1, 64, 255);
     let high = words::read_number(&word[hyphen + 1..], 2, 64, 255);
     span_of(low, high)
+}
+
+// The lowest and the highest quantum of a call.
+pub struct Quanta {
+    pub low: u8,
+    pub high: u8,
+}
+
+// The range of a call: the option's, else the list's, else 1 to 4. No entry.
+pub fn choose(optioned: bool, option: Quanta, listed: bool, list: Quanta) -> Quanta
+    ensures { λ r. ⌜ r ≡ chosen optioned option listed list ⌝ }
+{
+    if optioned {
+        return option;
+    }
+    if listed {
+        return list;
+    }
+    Quanta { low: 1, high: 4 }
 }

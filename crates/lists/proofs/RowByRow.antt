@@ -24,6 +24,10 @@ use Rattle.lists.specs.Words.{isMark, partsFrom, parts, before, lines, w
 use Rattle.lists.specs.Rows.{saysRange, saysPlaced, rowLine, rangeLine, rowAnswer, readFields, wordsLine, readLine, Rows, Reading, given, faulty, withRow, withRange, withLine, readLines, markSize, rowsIn}
 use Rattle.lists.proofs.Parsing.{before-take, no-word, next-word}
 
+-- The length of a table of structs, whose entries the checker sees through a map.
+pub unmapped : (X Y : Type 0) (f : X → Y) (l : List X) (n : ℕ) → length (map f l) ≡ n → length l ≡ n
+unmapped X Y f l n e = sym (length-map l f) ∙ e
+
 -- ---- a line by its first word
 
 module _ (form : Form) (content : List ℕ) (start : ℕ) (found : start ≡ 0 + length (before (isMark Word) (drop 0 content))) where

@@ -56,7 +56,7 @@ placeOf Quanta i = i + 2
 -- The limits that are told of larger numbers: those of an accepted job, setting or range, where a record could hold more.
 abbrev pub toldOf : Form → List ℕ
 toldOf Job = 255 ∷ longestPeriod ∷ longestPeriod ∷ longestDeadline ∷ 255 ∷ []
-toldOf Setting = 255 ∷ mostJobs ∷ roundRobin ∷ longestQuantum ∷ longestDeadline ∷ []
+toldOf Setting = 255 ∷ mostJobs ∷ roundRobin ∷ longestQuantum ∷ 65535 ∷ []
 toldOf Quanta = longestQuantum ∷ longestQuantum ∷ 0 ∷ 0 ∷ 0 ∷ []
 
 -- A policy may have its name.

@@ -105,7 +105,7 @@ fn told_of(form: Form) -> [u16; MOST]
 {
     match form {
         Form::Job => [255, 60000, 60000, 60000, 255],
-        Form::Setting => [255, 8, 2, 64, 60000],
+        Form::Setting => [255, 8, 2, 64, 65535],
         Form::Quanta => [64, 64, 0, 0, 0],
     }
 }

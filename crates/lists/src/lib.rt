@@ -1,4 +1,5 @@
 // Texts: job lists and configurations.
+pub mod blocks;
 pub mod fault;
 pub mod fields;
 pub mod rows;

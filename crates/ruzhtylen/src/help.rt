@@ -34,6 +34,12 @@ fn usage_lines(fd: i32) -> bool {
     }
     if !io::write_all(
         fd,
+        b"  install PREFIX              puts command, library, header and manual page under PREFIX\n",
+    ) {
+        return false;
+    }
+    if !io::write_all(
+        fd,
         b"  help [WORD]                 this, or more about a word\n",
     ) {
         return false;
@@ -210,6 +216,25 @@ fn block_lines(fd: i32) -> bool {
     io::write_all(fd, b"level, policy, quantum). Nothing is judged.\n")
 }
 
+fn install_lines(fd: i32) -> bool {
+    if !io::write_all(fd, b"ruzhtylen install PREFIX\n") {
+        return false;
+    }
+    if !io::write_all(fd, b"\n") {
+        return false;
+    }
+    if !io::write_all(
+        fd,
+        b"In a clone: builds the program and the library, and puts bin/ruzhtylen, lib/libruzhtylen.a,\n",
+    ) {
+        return false;
+    }
+    io::write_all(
+        fd,
+        b"include/ruzhtylen.h and the manual page under PREFIX. They need no kit to be used.\n",
+    )
+}
+
 fn text_lines(fd: i32) -> bool {
     if !io::write_all(fd, b"ruzhtylen text [--configuration] FILE\n") {
         return false;
@@ -239,6 +264,7 @@ pub fn help(fd: i32, word: Word) -> bool {
         Word::Bounds => both(bounds_lines(fd), configuration_lines(fd)),
         Word::Block => block_lines(fd),
         Word::Text => text_lines(fd),
+        Word::Install => install_lines(fd),
         Word::Help => all(fd),
         Word::Unknown => all(fd),
     }

@@ -93,6 +93,7 @@ fn is_unknown(word: Word) -> bool {
         Word::Bounds => false,
         Word::Block => false,
         Word::Text => false,
+        Word::Install => false,
         Word::Help => false,
         Word::Unknown => true,
     }
@@ -125,6 +126,11 @@ fn no_word() -> u8 {
     say::NOT_ANSWERED
 }
 
+// What is installed is built in a clone, by the command there.
+fn install() -> u8 {
+    wrong(b"install is a word of the command in a clone: ./ruzhtylen install PREFIX\n")
+}
+
 // Answers a word with its arguments, and gives the status.
 fn answer(word: Word, asked: Asked) -> u8 {
     if asked.faulty {
@@ -136,6 +142,7 @@ fn answer(word: Word, asked: Asked) -> u8 {
         Word::Bounds => bounds(asked),
         Word::Block => change_form(asked, true),
         Word::Text => change_form(asked, false),
+        Word::Install => install(),
         Word::Help => say_help(),
         Word::Unknown => no_word(),
     }
@@ -149,6 +156,7 @@ fn takes_files(word: Word) -> bool {
         Word::Bounds => true,
         Word::Block => true,
         Word::Text => true,
+        Word::Install => false,
         Word::Help => false,
         Word::Unknown => false,
     }

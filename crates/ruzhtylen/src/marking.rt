@@ -2,14 +2,13 @@
 use crate::asked;
 use crate::asked::Asked;
 use crate::quanta;
-use crate::quanta::Quanta;
 use crate::refused;
 use crate::say;
 use crate::slices;
 use crate::source;
 use crate::source::Source;
+use command::span::Quanta;
 use lists::fields::Form;
-use records::refusal::Counted;
 use text::answer::Answered;
 
 // Prints what is due: of one hand-in all of the text, of several the name and the last line.
@@ -100,14 +99,8 @@ pub fn mark(asked: Asked) -> u8 {
         return say::NOT_ANSWERED;
     }
     let quanta = quanta::quanta_of(asked, list);
-    let jobs = list.bytes;
-    let kept = slices::within(list.kept, &jobs);
-    let call = records::call::read_call(&jobs[..kept], quanta.low, quanta.high);
-    let answer = call.answer;
-    match answer {
-        Counted::Count(_) => mark_all(asked, list, quanta),
-        Counted::Refused(refusal) => {
-            refused::refuse_list(asked.first, list, quanta, refusal.number())
-        }
+    if refused::is_refused(asked.first, list, quanta) {
+        return say::NOT_ANSWERED;
     }
+    mark_all(asked, list, quanta)
 }

@@ -1,10 +1,11 @@
 // Refusals, said of the file that is refused.
-use crate::quanta::Quanta;
 use crate::say;
 use crate::slices;
 use crate::source::Source;
+use command::span::Quanta;
 use reasons::reason::Reason;
 use records::job::Job;
+use records::refusal::Counted;
 
 // Says a refusal of the file that is argument i.
 fn say_refusal(i: usize, number: u8, source: Source, reason: Reason) -> u8 {
@@ -53,10 +54,15 @@ pub fn refuse_hand_in(i: usize, hand_in: Source, list: Source, quanta: Quanta, n
     say_refusal(i, number, hand_in, reason)
 }
 
-// Says why a configuration and its list, the arguments i and k, are refused: refusals up to 6 are the list's and the range's.
-pub fn refuse(i: usize, k: usize, list: Source, hand_in: Source, quanta: Quanta, number: u8) -> u8 {
-    if number < 7 {
-        return refuse_list(i, list, quanta, number);
+// Whether a list, which is argument i, or its range is refused; then why is said.
+pub fn is_refused(i: usize, list: Source, quanta: Quanta) -> bool {
+    let bytes = list.bytes;
+    let kept = slices::within(list.kept, &bytes);
+    let call = records::call::read_call(&bytes[..kept], quanta.low, quanta.high);
+    let answer = call.answer;
+    if let Counted::Refused(refusal) = answer {
+        refuse_list(i, list, quanta, refusal.number());
+        return true;
     }
-    refuse_hand_in(k, hand_in, list, quanta, number)
+    false
 }

@@ -1,16 +1,13 @@
 // A list or a configuration as it was handed in: its block, and how its records are named. A block is taken as it is; a text is read, and
 // its block is not judged.
 ghost use Prim.Native.Nat.{_≤_};
-ghost use lib.ListN.{length};
 use crate::files;
 use crate::say;
 use crate::slices;
 use lists::fault::Fault;
 use lists::fields::Form;
-use lists::fields::Row;
 use lists::rows::RowsAnswer;
 use records::job::Job;
-use records::refusal::Counted;
 use text::refusal::Naming;
 
 // A byte more than the longest block, so that a longer one shows.
@@ -51,9 +48,8 @@ fn at_most(n: usize, most: usize) -> usize
 }
 
 // The first bytes of a block.
-fn first_bytes(block: &[u8], kept: usize) -> [u8; SIZE]
-    requires { ⌜ (kept ≤ length (now block)) × (kept ≤ 65) ⌝ }
-{
+fn first_bytes(block: &[u8]) -> [u8; SIZE] {
+    let kept = at_most(block.len(), SIZE);
     let mut bytes = [0u8; SIZE];
     let mut i = 0;
     while i < kept {
@@ -67,7 +63,7 @@ fn of_block(block: &[u8]) -> Source {
     let kept = at_most(block.len(), SIZE);
     Source {
         ok: true,
-        bytes: first_bytes(block, kept),
+        bytes: first_bytes(block),
         kept,
         size: at_most(block.len(), files::SIZE) as u32,
         naming: Naming::Record,
@@ -89,34 +85,6 @@ fn line_numbers(at: [usize; Job::MOST]) -> [u32; Job::MOST] {
     lines
 }
 
-// Writes the records of the first n rows to the bytes, and gives their size.
-fn put_rows(form: Form, rows: [Row; Job::MOST], n: usize, bytes: &mut [u8]) -> Counted {
-    match form {
-        Form::Job => records::block::write_unjudged(
-            lists::tables::jobs_from(rows, n),
-            n,
-            &mut *bytes,
-        ),
-        Form::Setting => {
-            configuration::block::write_settings(
-                lists::tables::settings_from(rows, n),
-                n,
-                &mut *bytes,
-            )
-        }
-        Form::Quanta => Counted::Count(0),
-    }
-}
-
-fn size_of(wrote: Counted) -> usize
-    ensures { λ r. ⌜ r ≤ 65 ⌝ }
-{
-    match wrote {
-        Counted::Count(size) => at_most(size, SIZE),
-        Counted::Refused(_) => 0,
-    }
-}
-
 fn say_fault(i: usize, line: usize, fault: Fault) {
     let mut output = [0u8; text::fault::SIZE];
     let length = text::fault::put_fault((line % 4294967296) as u32, fault, &mut output);
@@ -124,25 +92,20 @@ fn say_fault(i: usize, line: usize, fault: Fault) {
 }
 
 fn of_text(i: usize, form: Form, content: &[u8]) -> Source {
-    let read = lists::rows::read_rows(form, content);
+    let read = lists::blocks::read_block(form, content);
     let answer = read.answer;
-    let count = match answer {
-        RowsAnswer::Rows(count) => count,
-        RowsAnswer::Faulty(line, fault) => {
-            say_fault(i, line, fault);
-            return failed();
-        }
-    };
-    let rows = read.rows;
+    if let RowsAnswer::Faulty(line, fault) = answer {
+        say_fault(i, line, fault);
+        return failed();
+    }
+    let block = read.bytes;
     let at = read.at;
-    let mut bytes = [0u8; SIZE];
-    let wrote = put_rows(form, rows, count, &mut bytes);
-    let kept = size_of(wrote);
+    let size = read.size;
     Source {
         ok: true,
-        bytes,
-        kept,
-        size: kept as u32,
+        bytes: first_bytes(&block),
+        kept: size,
+        size: size as u32,
         naming: Naming::Line,
         lines: line_numbers(at),
         ranged: read.ranged,

@@ -1,12 +1,12 @@
 // Blocks as texts.
 ghost use Prim.Native.Nat.{_<_};
 use crate::asked::Asked;
-use crate::quanta::Quanta;
 use crate::refused;
 use crate::say;
 use crate::slices;
 use crate::source;
 use crate::source::Source;
+use command::span::Quanta;
 use configuration::setting::Setting;
 use lists::fields::Form;
 use records::job::Job;

@@ -1,12 +1,12 @@
 // What each word does with its files. Each function gives the status.
 use crate::asked::Asked;
 use crate::quanta;
-use crate::quanta::Quanta;
 use crate::refused;
 use crate::say;
 use crate::slices;
 use crate::source;
 use crate::source::Source;
+use command::span::Quanta;
 use lists::fields::Form;
 use text::answer::Answered;
 
@@ -32,8 +32,8 @@ pub fn key(asked: Asked) -> u8 {
     }
 }
 
-// The bounds of a configuration.
-fn bounds_of(asked: Asked, list: Source, quanta: Quanta, hand_in: Source) -> u8 {
+// The bounds of a configuration for a list and a range that are accepted.
+fn bounds_of(i: usize, list: Source, quanta: Quanta, hand_in: Source) -> u8 {
     let jobs = list.bytes;
     let jobs_kept = slices::within(list.kept, &jobs);
     let bytes = hand_in.bytes;
@@ -52,14 +52,7 @@ fn bounds_of(asked: Asked, list: Source, quanta: Quanta, hand_in: Source) -> u8 
         Answered::Yes => say::answer(say::YES, &output[..length]),
         Answered::No => say::answer(say::NO, &output[..length]),
         Answered::Refused(refusal) => {
-            refused::refuse(
-                asked.first,
-                asked.second,
-                list,
-                hand_in,
-                quanta,
-                refusal.number(),
-            )
+            refused::refuse_hand_in(i, hand_in, list, quanta, refusal.number())
         }
     }
 }
@@ -69,12 +62,15 @@ pub fn bounds(asked: Asked) -> u8 {
     if !list.ok {
         return say::NOT_ANSWERED;
     }
+    let quanta = quanta::quanta_of(asked, list);
+    if refused::is_refused(asked.first, list, quanta) {
+        return say::NOT_ANSWERED;
+    }
     let hand_in = source::load(asked.second, Form::Setting, asked.blocks);
     if !hand_in.ok {
         return say::NOT_ANSWERED;
     }
-    let quanta = quanta::quanta_of(asked, list);
-    bounds_of(asked, list, quanta, hand_in)
+    bounds_of(asked.second, list, quanta, hand_in)
 }
 
 // The block of a text.

@@ -1,15 +1,10 @@
-use Prim.Native.Nat.{ℕ}
-use mathlib.Core.Path.{_≡_, sym, _∙_}
-use mathlib.Core.List.{List, map}
-use lib.ListN.{length, length-map}
+use mathlib.Core.Path.{_≡_, _∙_}
+use lib.ListN.{length}
 use Rattle.records.specs.Limits.{mostJobs}
-use Rattle.lists.proofs.RowByRow.{row-fits, row-over}
+use Rattle.lists.proofs.RowByRow.{unmapped, row-fits, row-over}
 use borrow.Author.Needs.{needs}
 use Rattle.lists.proofs.rows.with_row.Statement.{statement}
 use Rattle.lists.proofs.rows.with_row.Tie as tie
-
-unmapped : (X Y : Type 0) (f : X → Y) (l : List X) (n : ℕ) → length (map f l) ≡ n → length l ≡ n
-unmapped X Y f l n e = sym (length-map l f) ∙ e
 
 -- The tables have eight entries.
 module _ (c : tie.Start) where

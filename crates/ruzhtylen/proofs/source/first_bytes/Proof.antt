@@ -11,6 +11,9 @@ Inv-loop block kept bytes₀ i₀ bytes i = (i ≤ kept) × (length bytes ≡ 65
 abbrev μ-loop : tie.MeasureT-loop
 μ-loop block kept bytes₀ i₀ bytes i = kept - i
 
+at-most-requires : tie.Need-at-most-requires Inv-loop μ-loop
+at-most-requires c κs = search needs
+
 loop-holds : tie.Need-loop-holds Inv-loop μ-loop
 loop-holds c = search needs
 
@@ -38,6 +41,7 @@ first-bytes-spec =
     (tie.spec
     Inv-loop
     μ-loop
+    at-most-requires
     loop-holds
     shared-slice-read-bytes
     array-write-bytes

@@ -61,8 +61,8 @@ enum-known-answer c = search needs
 number-requires : tie.Need-number-requires
 number-requires c κs = search needs
 
-refuse-requires : tie.Need-refuse-requires
-refuse-requires c κs = search needs
+refuse-hand-in-requires : tie.Need-refuse-hand-in-requires
+refuse-hand-in-requires c κs = search needs
 
 returns : tie.Need-returns
 returns c = search needs
@@ -96,7 +96,7 @@ bounds-of-spec =
     answer-requires-2
     enum-known-answer
     number-requires
-    refuse-requires
+    refuse-hand-in-requires
     returns
     returns-2
     returns-3)
