@@ -1,7 +1,6 @@
 -- The block of a text's rows is what is written of them. Assumes nothing.
 use Prim.Native.Nat.{ℕ, _*_, _≤_, min}
-use mathlib.Core.Path.{_≡_, refl, sym, ap, _∙_}
-use mathlib.Core.Bool.{Bool}
+use mathlib.Core.Path.{_≡_, refl, ap, _∙_}
 use mathlib.Core.List.{List, [], map}
 use mathlib.Core.Option.{Option}
 use native.Mathlib.Omega.{arith}
@@ -23,7 +22,7 @@ use Rattle.configuration.specs.declared.setting.Setting.{Setting}
 use Rattle.lists.specs.declared.fields.Form.{Form}
 use Rattle.lists.specs.declared.fields.Form.the-variants.{Job as JobForm, Setting as SettingForm, Quanta}
 use Rattle.lists.specs.declared.fields.Row.{Row}
-use Rattle.lists.specs.Rows.{Reading, given, readText}
+use Rattle.lists.specs.Rows.{given, readText}
 use Rattle.lists.specs.Lists.{jobFrom, settingFrom, listText, configurationText, JobFits, SettingFits, RangeFits, AllFit}
 use Rattle.lists.specs.Blocks.{blockOf, blockReading, Handed, putRows, sizeOf}
 use Rattle.lists.proofs.TextTrip.{list-back, configuration-back}

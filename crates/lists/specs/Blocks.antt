@@ -3,7 +3,7 @@ use Prim.Native.Nat.{ℕ}
 use mathlib.Core.Bool.{cond}
 use mathlib.Core.List.{List, [], map}
 use mathlib.Core.Option.{Option, none, some}
-use lib.ListN.{length, take}
+use lib.ListN.{take}
 use Rattle.records.specs.Refusals.{Answer, given as gives}
 use Rattle.records.specs.Records.{flat, writeRecords}
 use Rattle.records.specs.Jobs.{jobSize, jobBytes}

@@ -10,7 +10,7 @@ use Rattle.records.specs.declared.job.Job.{Job}
 use Rattle.records.specs.declared.judge.JobRule.{JobRule}
 use Rattle.records.specs.declared.judge.JobRule.the-variants.{Id, Order, Times}
 use Rattle.configuration.specs.Settings.{notPlaced, fifo, roundRobin, settingSize, settingAt}
-use Rattle.configuration.specs.Configuration.{placedLevel, settingOk}
+use Rattle.configuration.specs.Configuration.{settingOk}
 use Rattle.configuration.specs.declared.setting.Setting.{Setting}
 use Rattle.configuration.specs.declared.judge.SettingRule.{SettingRule}
 use Rattle.configuration.specs.declared.judge.SettingRule.the-variants.{Id as SettingId, Shape, Sharing, Placed}

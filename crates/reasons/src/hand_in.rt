@@ -1,6 +1,6 @@
 // Why a configuration is refused: refusals 7 to 11.
 ghost use mathlib.Core.Path.{_≡_};
-ghost use Prim.Native.Nat.{_≤_, min};
+ghost use Prim.Native.Nat.{_≤_};
 ghost use Rattle.records.specs.Limits.{mostJobs};
 ghost use Rattle.reasons.specs.Reasons.{countReason, shapeReason, sharingReason, settingReasonAt, settingReason, handInReason};
 use crate::reason;

@@ -75,15 +75,6 @@ fails-at test (suc n) = go (test n) refl (fails-at test n)
 
 -- ---- the first place at which a test fails
 
-pub failing-within : (test : Set) (n : ℕ) → failing test n ≤ n
-unfolding failing
-failing-within test zero = omega arith
-failing-within test (suc n) = by (failing (λ i. test (suc i)) n) (failing-within (λ i. test (suc i)) n) (test 0)
-  where
-    by : (m : ℕ) → m ≤ n → (b : Bool) → cond b (suc m) 0 ≤ suc n
-    by m h true = omega arith
-    by m h false = omega arith
-
 -- It is the first: the test passes at each place before it, and fails there.
 stops : (test : Set) (n i : ℕ) → i < n → ((j : ℕ) → j < i → test j ≡ true) → test i ≡ false → failing test n ≡ i
 unfolding failing
