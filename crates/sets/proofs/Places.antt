@@ -107,6 +107,24 @@ passes-before test (suc n) g i l = at (test 0) refl (passes-before (λ j. test (
         let h : 0 ≡ suc n = sym (ap (λ (b : Bool). cond b (suc (failing (λ j. test (suc j)) n)) 0) e) ∙ g in
         absurd (omega (arith, h))
 
+-- Where it fails at some place, it fails at that one.
+found : (test : Set) (n i : ℕ) → i < n → test i ≡ false → (failing test n < n) × (test (failing test n) ≡ false)
+unfolding failing
+found test zero i l f = absurd (omega arith)
+found test (suc n) i l f = by (test 0) refl i l f (found (λ j. test (suc j)) n)
+  where
+    later : ℕ
+    later = failing (λ j. test (suc j)) n
+
+    by : (b : Bool) → test 0 ≡ b → (i : ℕ) → i < suc n → test i ≡ false → ((j : ℕ) → j < n → test (suc j) ≡ false → (later < n) × (test (suc later) ≡ false))
+        → (cond b (suc later) 0 < suc n) × (test (cond b (suc later) 0) ≡ false)
+    by false e i l f on = (omega arith, e)
+    by true e zero l f on = absurd (false≢true (sym f ∙ e))
+    by true e (suc j) l f on = let w = on j (omega arith) f in (omega (arith, w .0), w .1)
+
+pub failing-fails : (test : Set) (n : ℕ) → every test n ≡ false → (failing test n < n) × (test (failing test n) ≡ false)
+failing-fails test n e = elim (fails-at test n) [ inl h ↦ absurd (false≢true (sym e ∙ every-of test n h)) | inr w ↦ found test n (w .0) (w .1) (w .2) ]
+
 -- Each place passes exactly if there is none that fails.
 pub every-failing : (test : Set) (n : ℕ) → every test n ≡ eqb (failing test n) n
 every-failing test n = by (every test n) refl
