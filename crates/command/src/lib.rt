@@ -62,7 +62,7 @@ pub fn word_of(argument: &[u8]) -> Word
     Word::Unknown
 }
 
-// Whether an argument that is no option is a name: it does not begin with two hyphens.
+// Whether an argument begins with two hyphens, as options do.
 fn is_option(argument: &[u8]) -> bool
     ensures { λ r. ⌜ r ≡ isOption (now (argument .entry)) ⌝ }
 {

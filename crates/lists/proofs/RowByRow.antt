@@ -21,7 +21,7 @@ use Rattle.lists.specs.declared.fields.Row.{Row}
 use Rattle.lists.specs.declared.rows.LineAnswer.the-variants.{Skipped}
 use Rattle.lists.specs.declared.rows.RowsRead.{RowsRead}
 use Rattle.lists.specs.Words.{isMark, partsFrom, parts, before, lines, words}
-use Rattle.lists.specs.Rows.{saysRange, saysPlaced, rowLine, rangeLine, rowAnswer, readFields, wordsLine, readLine, Rows, Reading, given, faulty, withRow, withRange, withLine, readLines, markSize, rowsIn}
+use Rattle.lists.specs.Rows.{saysRange, saysPlaced, rowLine, rangeLine, rowAnswer, readFields, wordsLine, plainLine, readLine, Rows, Reading, given, faulty, withRow, withRange, withLine, readLines, markSize, rowsIn}
 use Rattle.lists.proofs.Parsing.{before-take, no-word, next-word}
 
 -- The length of a table of structs, whose entries the checker sees through a map.
@@ -84,7 +84,7 @@ module _ (form : Form) (feed : ℕ → Bool) where
   lines-from : (number : ℕ) (reading : Reading Rows) (part text : List ℕ)
       → readLines form number reading (partsFrom feed part text)
       ≡ readLines form (number + 1) (withLine number (readLine form (part ++ before feed text)) reading) (parts feed (drop (suc (length (before feed text))) text))
-  unfolding readLine
+  unfolding readLine plainLine
   lines-from number reading part [] = rw append-nil (sym (line-skipped (number + 1) (withLine number (readLine form part) reading)))
   lines-from number reading part (byte ∷ text) = by (lines-from number reading (part ++ (byte ∷ [])) text) (feed byte)
     where
@@ -111,7 +111,7 @@ lines-next form text at end next number reading e f =
 
 -- Past the last byte there is nothing.
 pub lines-end : (form : Form) (text : List ℕ) (at number : ℕ) (reading : Reading Rows) → length text ≤ at → readLines form number reading (lines (drop at text)) ≡ reading
-unfolding readLine
+unfolding readLine plainLine
 lines-end form text at number reading h = rw (drop-of-length-le text h) (line-skipped number reading)
 
 -- ---- the mark before a text

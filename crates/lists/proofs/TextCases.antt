@@ -5,12 +5,12 @@ use mathlib.Core.List.{List, [], _∷_, map}
 use mathlib.Core.Option.{Option, none, some}
 use Rattle.sets.specs.Places.{every}
 use Rattle.same_bytes.specs.Same.{sameBytes}
-use Rattle.lists.specs.declared.fault.Fault.the-variants.{NotANumber, TooLarge, NotAPolicy, JobWords, SettingWords, RangeWords, TooMany, SecondRange}
+use Rattle.lists.specs.declared.fault.Fault.the-variants.{NotANumber, TooLarge, NotAPolicy, LoneReturn, JobWords, SettingWords, RangeWords, TooMany, SecondRange}
 use Rattle.lists.specs.declared.fields.Form.{Form}
 use Rattle.lists.specs.declared.fields.Form.the-variants.{Job as JobForm, Setting as SettingForm}
 use Rattle.lists.specs.declared.fields.Row.{Row}
 use Rattle.lists.specs.Words.{numberOf}
-use Rattle.lists.specs.Rows.{policyOr, wordOf, readLine, Rows, Reading, given, faulty, readText}
+use Rattle.lists.specs.Rows.{policyOr, wordOf, plainLine, readLine, Rows, Reading, given, faulty, readText}
 
 -- A case: what is read, a text, and what reading it is to come to.
 pub data Case : Type 0 where
@@ -61,6 +61,11 @@ cases =
     ∷ case JobForm (113 ∷ 117 ∷ 97 ∷ 110 ∷ 116 ∷ 97 ∷ 32 ∷ 49 ∷ 32 ∷ 50 ∷ 32 ∷ 51 ∷ 10 ∷ []) (faulty 1 RangeWords)
     -- `quanta 1 256\n`
     ∷ case JobForm (113 ∷ 117 ∷ 97 ∷ 110 ∷ 116 ∷ 97 ∷ 32 ∷ 49 ∷ 32 ∷ 50 ∷ 53 ∷ 54 ∷ 10 ∷ []) (faulty 1 (TooLarge 3 64))
+    -- a carriage return within a line, in a comment or not
+    -- `1 6 8 8 # first\r2 5 22 22\n`
+    ∷ case JobForm (49 ∷ 32 ∷ 54 ∷ 32 ∷ 56 ∷ 32 ∷ 56 ∷ 32 ∷ 35 ∷ 32 ∷ 102 ∷ 105 ∷ 114 ∷ 115 ∷ 116 ∷ 13 ∷ 50 ∷ 32 ∷ 53 ∷ 32 ∷ 50 ∷ 50 ∷ 32 ∷ 50 ∷ 50 ∷ 10 ∷ []) (faulty 1 LoneReturn)
+    -- `1 6 8 8\r7\r\n`
+    ∷ case JobForm (49 ∷ 32 ∷ 54 ∷ 32 ∷ 56 ∷ 32 ∷ 56 ∷ 13 ∷ 55 ∷ 13 ∷ 10 ∷ []) (faulty 1 LoneReturn)
     -- a word that is not a number
     -- `1 2 5 5\n2 x 5 5\n`
     ∷ case JobForm (49 ∷ 32 ∷ 50 ∷ 32 ∷ 53 ∷ 32 ∷ 53 ∷ 10 ∷ 50 ∷ 32 ∷ 120 ∷ 32 ∷ 53 ∷ 32 ∷ 53 ∷ 10 ∷ []) (faulty 2 (NotANumber 2))
@@ -120,5 +125,5 @@ cases =
     ∷ []
 
 pub read-cases : map answered cases ≡ map expected cases
-unfolding row read answered expected cases every sameBytes numberOf policyOr wordOf readLine readText
+unfolding row read answered expected cases every sameBytes numberOf policyOr wordOf plainLine readLine readText
 read-cases = refl

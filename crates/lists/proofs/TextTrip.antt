@@ -9,7 +9,7 @@ use native.Mathlib.Omega.{arith}
 use lib.Dec.{eqb, lit<}
 use lib.ListN.{length, getD, take, drop, length-append, List·getD-append}
 use lib.Seq.{getD-take}
-use borrow.Author.Tests.{lt-ltb, le-leb, ne-eqb}
+use borrow.Author.Tests.{lt-ltb, le-leb, ne-eqb, le-ltb}
 use Rattle.records.specs.Limits.{mostJobs}
 use Rattle.records.specs.Records.{flat}
 use Rattle.records.specs.declared.job.Job.{Job}
@@ -17,16 +17,17 @@ use Rattle.configuration.specs.declared.setting.Setting.{Setting}
 use Rattle.same_bytes.specs.Same.{sameBytes}
 use Rattle.same_bytes.proofs.Equality.{same-exactly}
 use Rattle.lists.specs.Decimals.{space, lineFeed, digit, decimal}
-use Rattle.lists.specs.declared.words.Mark.the-variants.{LineEnd, Comment}
+use Rattle.lists.specs.declared.words.Mark.the-variants.{LineEnd, Comment, Return}
 use Rattle.lists.specs.declared.words.WordAnswer.{WordAnswer}
 use Rattle.lists.specs.declared.words.WordAnswer.the-variants.{Number, Wrong}
 use Rattle.lists.specs.declared.fields.Form.{Form}
 use Rattle.lists.specs.declared.fields.Form.the-variants.{Job as JobForm, Setting as SettingForm, Quanta as QuantaForm}
 use Rattle.lists.specs.declared.fields.Row.{Row}
 use Rattle.lists.specs.declared.rows.LineAnswer.{LineAnswer}
-use Rattle.lists.specs.declared.rows.LineAnswer.the-variants.{Skipped, Found, RangeOf}
+use Rattle.lists.specs.declared.fault.Fault.the-variants.{LoneReturn}
+use Rattle.lists.specs.declared.rows.LineAnswer.the-variants.{Skipped, Found, RangeOf, Wrong as LineWrong}
 use Rattle.lists.specs.Words.{tab, carriageReturn, numberSign, isBlank, isMark, isDigit, partsFrom, parts, before, nonEmpty, lines, words, allDigits, valueFrom, numberOf}
-use Rattle.lists.specs.Rows.{Numbers, wrong, fieldsFrom, readFields, rowAnswer, rowLine, rangeLine, noneName, fifoName, roundRobinName, policyOr, wordOf, quantaWord, placedWord, wordsLine, readLine, Rows, Reading, given, withLine, readLines, markSize, noRows, readText}
+use Rattle.lists.specs.Rows.{Numbers, wrong, fieldsFrom, readFields, rowAnswer, rowLine, rangeLine, noneName, fifoName, roundRobinName, policyOr, wordOf, quantaWord, placedWord, wordsLine, plainLine, readLine, Rows, Reading, given, withLine, readLines, markSize, noRows, readText}
 use Rattle.lists.specs.Lists.{jobFrom, settingFrom, lineText, delayWords, jobText, policyWord, settingText, listText, configurationText, JobFits, SettingFits, RangeFits, AllFit}
 use Rattle.lists.proofs.Decimal.{decimal-one, decimal-more}
 use Rattle.lists.proofs.Parsing.{digit-range}
@@ -107,6 +108,7 @@ record Plain (word : List ℕ) : Type 0 where
   pub blank : Free isBlank word
   pub feed : Free (isMark LineEnd) word
   pub comment : Free (isMark Comment) word
+  pub return : Free (isMark Return) word
   pub first : getD word 0 0 < 128
 
 abbrev AllPlain : List (List ℕ) → Type 0
@@ -135,13 +137,14 @@ decimal-plain n =
       blank = digits-free isBlank apart-blank (decimal n) (s .digits);
       feed = digits-free (isMark LineEnd) (apart lineFeed (omega arith)) (decimal n) (s .digits);
       comment = digits-free (isMark Comment) (apart numberSign (omega arith)) (decimal n) (s .digits);
+      return = digits-free (isMark Return) (apart carriageReturn (omega arith)) (decimal n) (s .digits);
       first = first-digit (decimal n) (s .digits);
     }
 
 policy-plain : (policy : ℕ) → Plain (policyWord policy)
-policy-plain zero = record { some = lit< tt; blank = (refl, (refl, (refl, (refl, tt)))); feed = (refl, (refl, (refl, (refl, tt)))); comment = (refl, (refl, (refl, (refl, tt)))); first = lit< tt }
-policy-plain (suc zero) = record { some = lit< tt; blank = (refl, (refl, (refl, (refl, tt)))); feed = (refl, (refl, (refl, (refl, tt)))); comment = (refl, (refl, (refl, (refl, tt)))); first = lit< tt }
-policy-plain (suc (suc zero)) = record { some = lit< tt; blank = (refl, (refl, tt)); feed = (refl, (refl, tt)); comment = (refl, (refl, tt)); first = lit< tt }
+policy-plain zero = record { some = lit< tt; blank = (refl, (refl, (refl, (refl, tt)))); feed = (refl, (refl, (refl, (refl, tt)))); comment = (refl, (refl, (refl, (refl, tt)))); return = (refl, (refl, (refl, (refl, tt)))); first = lit< tt }
+policy-plain (suc zero) = record { some = lit< tt; blank = (refl, (refl, (refl, (refl, tt)))); feed = (refl, (refl, (refl, (refl, tt)))); comment = (refl, (refl, (refl, (refl, tt)))); return = (refl, (refl, (refl, (refl, tt)))); first = lit< tt }
+policy-plain (suc (suc zero)) = record { some = lit< tt; blank = (refl, (refl, tt)); feed = (refl, (refl, tt)); comment = (refl, (refl, tt)); return = (refl, (refl, tt)); first = lit< tt }
 policy-plain (suc (suc (suc policy))) = decimal-plain (suc (suc (suc policy)))
 
 quanta-plain : Plain quantaWord
@@ -150,6 +153,7 @@ quanta-plain = record {
   blank = (refl, (refl, (refl, (refl, (refl, (refl, tt))))));
   feed = (refl, (refl, (refl, (refl, (refl, (refl, tt))))));
   comment = (refl, (refl, (refl, (refl, (refl, (refl, tt))))));
+  return = (refl, (refl, (refl, (refl, (refl, (refl, tt))))));
   first = lit< tt;
 }
 
@@ -203,10 +207,14 @@ line-first word rest more p q =
     ∙ parts-free (isMark LineEnd) [] (body word rest) (lineFeed ∷ more) (body-free (isMark LineEnd) refl (λ w x. x .feed) word rest p q)
 
 line-read : (form : Form) (word : List ℕ) (rest : List (List ℕ)) → Plain word → AllPlain rest → readLine form (body word rest) ≡ wordsLine form (word ∷ rest)
-unfolding readLine
+unfolding readLine plainLine
 line-read form word rest p q =
-    ap (λ (l : List ℕ). wordsLine form (words l)) (before-free (isMark Comment) (body word rest) (body-free (isMark Comment) refl (λ w x. x .comment) word rest p q))
+    ap (λ (b : Bool). cond b (LineWrong LoneReturn) (plainLine form (body word rest))) (le-ltb (length (before (isMark Return) (body word rest)) + 1) (length (body word rest)) (omega (arith, ap length whole)))
+    ∙ ap (λ (l : List ℕ). wordsLine form (words l)) (before-free (isMark Comment) (body word rest) (body-free (isMark Comment) refl (λ w x. x .comment) word rest p q))
     ∙ ap (wordsLine form) (body-words word rest p q)
+  where
+    whole : before (isMark Return) (body word rest) ≡ body word rest
+    whole = before-free (isMark Return) (body word rest) (body-free (isMark Return) refl (λ w x. x .return) word rest p q)
 
 -- ---- a text of such lines
 
@@ -225,7 +233,7 @@ module _ {A : Type 0} (form : Form) (W : Written form A) where
 
   rows-read : (number : ℕ) (r : Rows) (xs : List A) → AllFit (W .Fits) xs → length (r .rows) + length xs ≤ mostJobs
       → (s : Rows) × (readLines form number (given r) (lines (flat text xs)) ≡ given s) × (s .rows ≡ r .rows ++ map (W .row) xs) × (s .range ≡ r .range)
-  unfolding flat readLine
+  unfolding flat readLine plainLine
   rows-read number r [] fit few = (r, refl, sym (append-nil (r .rows)), refl)
   rows-read number r (x ∷ xs) fit few =
       let next : Rows = record { rows = r .rows ++ (W .row x ∷ []); at = r .at ++ (number ∷ []); range = r .range } in
@@ -314,7 +322,7 @@ range-read low high fit =
 -- What is written of a range, or of none, and of at most 8 jobs whose numbers fit their records is read back to exactly these.
 pub list-back : (range : Option (ℕ × ℕ)) (jobs : List Job) → RangeFits range → AllFit JobFits jobs → length jobs ≤ mostJobs
     → (r : Rows) × (readText JobForm (listText range jobs) ≡ given r) × (map jobFrom (r .rows) ≡ jobs) × (r .range ≡ range)
-unfolding readText listText flat readLine
+unfolding readText listText flat readLine plainLine
 list-back none jobs rf fit few =
     let w = rows-read JobForm jobs-written 1 noRows jobs fit (omega arith) in
     (w .0, ap (λ (k : ℕ). readLines JobForm 1 (given noRows) (lines (drop k (flat jobText jobs)))) (no-mark (flat jobText jobs) (starts jobs)) ∙ w .1, ap (map jobFrom) (w .2) ∙ jobs-back jobs fit, w .3)

@@ -12,8 +12,8 @@ use Rattle.records.specs.Limits.{mostJobs, longestPeriod, longestDeadline, long
 use Rattle.configuration.specs.Settings.{roundRobin}
 use Rattle.same_bytes.specs.Same.{sameBytes}
 use Rattle.lists.specs.declared.fault.Fault.{Fault}
-use Rattle.lists.specs.declared.fault.Fault.the-variants.{NotAPolicy, JobWords, SettingWords, RangeWords, TooMany, SecondRange}
-use Rattle.lists.specs.declared.words.Mark.the-variants.{Comment}
+use Rattle.lists.specs.declared.fault.Fault.the-variants.{NotAPolicy, LoneReturn, JobWords, SettingWords, RangeWords, TooMany, SecondRange}
+use Rattle.lists.specs.declared.words.Mark.the-variants.{Comment, Return}
 use Rattle.lists.specs.declared.words.WordAnswer.{WordAnswer}
 use Rattle.lists.specs.declared.words.WordAnswer.the-variants.{Number, Wrong}
 use Rattle.lists.specs.declared.fields.Form.{Form}
@@ -153,9 +153,17 @@ wordsLine form (word ∷ rest) =
     cond (saysRange form word) (rangeLine (rowAnswer (readFields Quanta rest)))
     (cond (saysPlaced form word) Skipped (rowLine (rowAnswer (readFields form (word ∷ rest)))))
 
--- A line: from `#` on it is a comment.
+-- A line without carriage returns: from `#` on it is a comment.
+unfoldable pub plainLine : Form → List ℕ → LineAnswer
+plainLine form line = wordsLine form (words (before (isMark Comment) line))
+
+-- A carriage return stands before the last byte. At the end of a line it is part of a line end of two bytes; within one it would join what
+-- a person sees as two lines, so that a comment would hide the second.
+abbrev pub loneReturn : List ℕ → Bool
+loneReturn line = ltb (length (before (isMark Return) line) + 1) (length line)
+
 unfoldable pub readLine : Form → List ℕ → LineAnswer
-readLine form line = wordsLine form (words (before (isMark Comment) line))
+readLine form line = cond (loneReturn line) (LineWrong LoneReturn) (plainLine form line)
 
 -- ---- a text
 

@@ -7,7 +7,7 @@ use Rattle.lists.specs.Decimals.{space, lineFeed, digit}
 use Rattle.lists.specs.declared.fault.Fault.{Fault}
 use Rattle.lists.specs.declared.fault.Fault.the-variants.{NotANumber, TooLarge, TooMany}
 use Rattle.lists.specs.declared.words.Mark.{Mark}
-use Rattle.lists.specs.declared.words.Mark.the-variants.{LineEnd, Comment, Hyphen, Blank, Word}
+use Rattle.lists.specs.declared.words.Mark.the-variants.{LineEnd, Comment, Return, Hyphen, Blank, Word}
 use Rattle.lists.specs.declared.words.WordAnswer.{WordAnswer}
 use Rattle.lists.specs.declared.words.WordAnswer.the-variants.{Number, Wrong}
 
@@ -29,10 +29,11 @@ hyphen = 45
 abbrev pub isBlank : ℕ → Bool
 isBlank byte = eqb byte space || (eqb byte tab || eqb byte carriageReturn)
 
--- The byte ends a line, starts a comment, is a hyphen, stands between words, or belongs to a word.
+-- The byte ends a line, starts a comment, is a carriage return or a hyphen, stands between words, or belongs to a word.
 abbrev pub isMark : Mark → ℕ → Bool
 isMark LineEnd byte = eqb byte lineFeed
 isMark Comment byte = eqb byte numberSign
+isMark Return byte = eqb byte carriageReturn
 isMark Hyphen byte = eqb byte hyphen
 isMark Blank byte = isBlank byte
 isMark Word byte = not (isBlank byte)

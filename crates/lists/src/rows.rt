@@ -3,7 +3,7 @@ ghost use mathlib.Core.Path.{_≡_};
 ghost use Prim.Native.Nat.{_+_, _≤_};
 ghost use lib.ListN.{length, drop};
 ghost use Rattle.lists.specs.Words.{words};
-ghost use Rattle.lists.specs.Rows.{saysRange, saysPlaced, rowLine, rangeLine, wordsLine, readLine, withRow, withRange, withLine, faulty, markSize, rowsIn, rowsOutcome, readText};
+ghost use Rattle.lists.specs.Rows.{saysRange, saysPlaced, rowLine, rangeLine, wordsLine, plainLine, loneReturn, readLine, withRow, withRange, withLine, faulty, markSize, rowsIn, rowsOutcome, readText};
 use crate::fault::Fault;
 use crate::fields;
 use crate::fields::FieldsAnswer;
@@ -97,11 +97,34 @@ fn read_content(form: Form, content: &[u8]) -> LineAnswer
     row_line(read)
 }
 
-fn read_line(form: Form, line: &[u8]) -> LineAnswer
-    ensures { λ r. ⌜ r ≡ readLine form (now (line .entry)) ⌝ }
+fn read_plain(form: Form, line: &[u8]) -> LineAnswer
+    ensures { λ r. ⌜ r ≡ plainLine form (now (line .entry)) ⌝ }
 {
     let end = words::find(Mark::Comment, line, 0);
     read_content(form, &line[..end])
+}
+
+// Whether a carriage return stands before the last byte of a line.
+fn has_lone_return(line: &[u8]) -> bool
+    ensures { λ r. ⌜ r ≡ loneReturn (now (line .entry)) ⌝ }
+{
+    let at = words::find(Mark::Return, line, 0);
+    if at == line.len() {
+        return false;
+    }
+    if line.len() - at < 2 {
+        return false;
+    }
+    true
+}
+
+fn read_line(form: Form, line: &[u8]) -> LineAnswer
+    ensures { λ r. ⌜ r ≡ readLine form (now (line .entry)) ⌝ }
+{
+    if has_lone_return(line) {
+        return LineAnswer::Wrong(Fault::LoneReturn);
+    }
+    read_plain(form, line)
 }
 
 fn faulty_at(number: usize, fault: Fault) -> RowsRead

@@ -9,6 +9,7 @@ use crate::fault::Fault;
 pub enum Mark {
     LineEnd,
     Comment,
+    Return,
     Hyphen,
     Blank,
     Word,
@@ -38,6 +39,7 @@ fn is_mark(mark: Mark, byte: u8) -> bool
     match mark {
         Mark::LineEnd => byte == b'\n',
         Mark::Comment => byte == b'#',
+        Mark::Return => byte == b'\r',
         Mark::Hyphen => byte == b'-',
         Mark::Blank => is_blank(byte),
         Mark::Word => !is_blank(byte),

@@ -1,44 +1,64 @@
--- What a sentence claims of its numbers, so that it can be said that it is true of the record. Assumes nothing.
-use Prim.Native.Nat.{ℕ, _%_}
+-- When what is said of a refusal is true: which sentence it is, with which numbers, and what then holds of the record. Assumes nothing.
+use Prim.Native.Nat.{ℕ, _/_, _%_, _≤_, _<_}
 use mathlib.Core.Path.{_≡_}
-use mathlib.Core.Bool.{Bool, true, false, not, _&&_, _||_}
-use lib.Dec.{leb, ltb, eqb}
-use lib.ListN.{getD}
-use Rattle.records.specs.Limits.{mostJobs}
+use mathlib.Core.Logic.{_⊎_}
+use Rattle.records.specs.Limits.{longestPeriod, longestDeadline, longestQuantum, mostJobs}
 use Rattle.records.specs.Jobs.{jobSize}
-use Rattle.configuration.specs.Settings.{roundRobin, settingSize}
-use Rattle.reasons.specs.declared.reason.Sentence.{Sentence}
-use Rattle.reasons.specs.declared.reason.Sentence.the-variants.{NoJobs, JobBytes, ManyJobs, ZeroId, IdNotAbove, ZeroCost, CostOverDeadline, CostOverPeriod, LongPeriod, LongDeadline, ZeroQuantum, EmptyRange, LongQuantum, SettingBytes, SettingCount, OtherId, NumbersOfNone, NoPolicy, LevelOutside, FifoQuantum, QuantumOutside, FifoShares, Alone, NotPlaced, Unknown}
+use Rattle.records.specs.declared.job.Job.{Job}
+use Rattle.configuration.specs.Settings.{notPlaced, fifo, roundRobin, settingSize}
+use Rattle.configuration.specs.declared.setting.Setting.{Setting}
+use Rattle.reasons.specs.declared.reason.Sentence.the-variants.{NoJobs, JobBytes, ManyJobs, ZeroId, IdNotAbove, ZeroCost, CostOverDeadline, CostOverPeriod, LongPeriod, LongDeadline, ZeroQuantum, EmptyRange, LongQuantum, SettingBytes, SettingCount, OtherId, NumbersOfNone, NoPolicy, LevelOutside, FifoQuantum, QuantumOutside, FifoShares, Alone, NotPlaced}
 use Rattle.reasons.specs.declared.reason.Reason.{Reason}
+use Rattle.reasons.specs.Reasons.{reasonOf, onWhole}
 
--- A sentence whose numbers are the first, the second and the third. One that compares nothing claims nothing, and `Unknown` is never true.
-abbrev pub claim : Sentence → ℕ → ℕ → ℕ → Bool
-claim NoJobs first second third = true
-claim JobBytes first second third = not (eqb (first % jobSize) 0)
-claim ManyJobs first second third = ltb mostJobs first
-claim ZeroId first second third = true
-claim IdNotAbove first second third = leb first second
-claim ZeroCost first second third = true
-claim CostOverDeadline first second third = ltb second first
-claim CostOverPeriod first second third = ltb second first
-claim LongPeriod first second third = ltb second first
-claim LongDeadline first second third = ltb second first
-claim ZeroQuantum first second third = true
-claim EmptyRange first second third = ltb second first
-claim LongQuantum first second third = ltb second first
-claim SettingBytes first second third = not (eqb (first % settingSize) 0)
-claim SettingCount first second third = not (eqb first second)
-claim OtherId first second third = not (eqb first second)
-claim NumbersOfNone first second third = not (eqb first 0 && eqb second 0)
-claim NoPolicy first second third = ltb roundRobin first
-claim LevelOutside first second third = eqb first 0 || ltb second first
-claim FifoQuantum first second third = not (eqb first 0)
-claim QuantumOutside first second third = ltb first second || ltb third first
-claim FifoShares first second third = true
-claim Alone first second third = true
-claim NotPlaced first second third = true
-claim Unknown first second third = false
+-- Of the times of the job at a place.
+abbrev pub TrueOfTimes : ℕ → Job → Reason → Type 0
+TrueOfTimes at job r =
+    ((r ≡ reasonOf ZeroCost at 0 0 0) × (job .cost ≡ 0))
+    ⊎ (((r ≡ reasonOf CostOverDeadline at (job .cost) (job .deadline) 0) × (job .deadline < job .cost))
+    ⊎ (((r ≡ reasonOf CostOverPeriod at (job .cost) (job .period) 0) × (job .period < job .cost))
+    ⊎ (((r ≡ reasonOf LongPeriod at (job .period) longestPeriod 0) × (longestPeriod < job .period))
+    ⊎ ((r ≡ reasonOf LongDeadline at (job .deadline) longestDeadline 0) × (longestDeadline < job .deadline)))))
 
--- What is said is true.
-abbrev pub Claimed : Reason → Type 0
-Claimed r = claim (r .sentence) (getD (r .numbers) 0 0) (getD (r .numbers) 1 0) (getD (r .numbers) 2 0) ≡ true
+-- Of a job, `before` being the id of the job before it.
+abbrev pub TrueOfJob : ℕ → ℕ → Job → Reason → Type 0
+TrueOfJob at before job r =
+    ((r ≡ reasonOf ZeroId at 0 0 0) × (job .id ≡ 0))
+    ⊎ (((r ≡ reasonOf IdNotAbove at (job .id) before 0) × (job .id ≤ before))
+    ⊎ TrueOfTimes at job r)
+
+-- Of a range, and of the sizes of the two blocks.
+abbrev pub TrueOfRange : ℕ → ℕ → Reason → Type 0
+TrueOfRange low high r =
+    ((r ≡ onWhole ZeroQuantum 0 0) × (low ≡ 0))
+    ⊎ (((r ≡ onWhole EmptyRange low high) × (high < low))
+    ⊎ ((r ≡ onWhole LongQuantum high longestQuantum) × (longestQuantum < high)))
+
+abbrev pub TrueOfSize : ℕ → Reason → Type 0
+TrueOfSize size r =
+    ((r ≡ onWhole NoJobs 0 0) × (size ≡ 0))
+    ⊎ (((r ≡ onWhole ManyJobs (size / jobSize) 0) × (size % jobSize ≡ 0) × (mostJobs < size / jobSize))
+    ⊎ ((r ≡ onWhole JobBytes size 0) × (size % jobSize ≡ 0 → ⊥)))
+
+abbrev pub TrueOfCount : ℕ → ℕ → Reason → Type 0
+TrueOfCount size n r =
+    ((r ≡ onWhole SettingCount (size / settingSize) n) × (size % settingSize ≡ 0) × (size / settingSize ≡ n → ⊥))
+    ⊎ ((r ≡ onWhole SettingBytes size 0) × (size % settingSize ≡ 0 → ⊥))
+
+-- Of the shape of the setting at a place, n being the number of jobs.
+abbrev pub TrueOfShape : ℕ → ℕ → ℕ → ℕ → Setting → Reason → Type 0
+TrueOfShape at n low high setting r =
+    ((r ≡ reasonOf NumbersOfNone at (setting .level) (setting .quantum) 0) × (setting .policy ≡ notPlaced) × ((setting .level ≡ 0 → ⊥) ⊎ (setting .quantum ≡ 0 → ⊥)))
+    ⊎ (((r ≡ reasonOf NoPolicy at (setting .policy) 0 0) × (roundRobin < setting .policy))
+    ⊎ (((r ≡ reasonOf LevelOutside at (setting .level) n 0) × ((setting .level ≡ 0) ⊎ (n < setting .level)))
+    ⊎ (((r ≡ reasonOf FifoQuantum at (setting .quantum) 0 0) × (setting .policy ≡ fifo) × (setting .quantum ≡ 0 → ⊥))
+    ⊎ ((r ≡ reasonOf QuantumOutside at (setting .quantum) low high) × (setting .policy ≡ roundRobin) × ((setting .quantum < low) ⊎ (high < setting .quantum))))))
+
+-- Of a setting, `sharing` being how many jobs are on its level.
+abbrev pub TrueOfSetting : ℕ → ℕ → ℕ → ℕ → ℕ → Job → Setting → Reason → Type 0
+TrueOfSetting at n low high sharing job setting r =
+    ((r ≡ reasonOf OtherId at (setting .id) (job .id) 0) × (setting .id ≡ job .id → ⊥))
+    ⊎ (TrueOfShape at n low high setting r
+    ⊎ (((r ≡ reasonOf FifoShares at (setting .level) 0 0) × (setting .policy ≡ fifo) × (sharing ≡ 1 → ⊥))
+    ⊎ (((r ≡ reasonOf Alone at (setting .level) 0 0) × (setting .policy ≡ roundRobin) × (sharing < 2))
+    ⊎ ((r ≡ reasonOf NotPlaced at (setting .id) 0 0) × (setting .policy ≡ notPlaced)))))

@@ -2,6 +2,7 @@
 use crate::say;
 use command::Argument;
 use command::span::Span;
+use libc::STDERR_FILENO;
 
 // The options and the names. What is wrong has been said where it is faulty. The first and the second name are the arguments of these
 // numbers; `inputs` counts those that are standard input; `awaits` is set before the range that follows its option, and `ended` after the
@@ -64,7 +65,7 @@ fn with_range(asked: Asked, word: &[u8]) -> Asked {
         }
         Span::Wrong => with_fault(
             next,
-            b"--quanta takes the lowest and the highest quantum with a hyphen between, as 1-4\n",
+            b"--quanta takes the lowest and the highest quantum, up to 64, with a hyphen between, as 1-4\n",
         ),
     }
 }
@@ -114,11 +115,32 @@ fn with_option(asked: Asked, argument: Argument) -> Asked {
             next.ended = true;
             next
         }
-        Argument::UnknownOption => with_fault(
-            next,
-            b"an option is none of --quanta, --block and --configuration; after -- a name may begin with --\n",
-        ),
+        Argument::UnknownOption => next,
         Argument::Name => next,
+    }
+}
+
+// An option that there is not, which is argument i.
+fn with_unknown(asked: Asked, i: usize) -> Asked {
+    if asked.faulty {
+        return asked;
+    }
+    let mut next = asked;
+    say::message(b"ruzhtylen: unknown option ");
+    say::argument(STDERR_FILENO, i);
+    say::message(b"; after -- a name may begin with --\n");
+    next.faulty = true;
+    next
+}
+
+fn is_unknown(argument: Argument) -> bool {
+    match argument {
+        Argument::Quanta => false,
+        Argument::Blocks => false,
+        Argument::Configuration => false,
+        Argument::End => false,
+        Argument::UnknownOption => true,
+        Argument::Name => false,
     }
 }
 
@@ -143,6 +165,9 @@ fn with_word(asked: Asked, i: usize, word: &[u8]) -> Asked {
     let argument = command::argument_of(word);
     if is_name(argument) {
         return with_name(asked, i, word);
+    }
+    if is_unknown(argument) {
+        return with_unknown(asked, i);
     }
     with_option(asked, argument)
 }

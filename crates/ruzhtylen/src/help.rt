@@ -20,12 +20,13 @@ fn usage_lines(fd: i32) -> bool {
     ) {
         return false;
     }
-    if !io::write_all(
+    io::write_all(
         fd,
         b"  bounds LIST CONFIGURATION   the bounds of a configuration, full or not\n",
-    ) {
-        return false;
-    }
+    )
+}
+
+fn words_lines(fd: i32) -> bool {
     if !io::write_all(fd, b"  block FILE                  the block of a text\n") {
         return false;
     }
@@ -225,14 +226,17 @@ fn install_lines(fd: i32) -> bool {
     }
     if !io::write_all(
         fd,
-        b"In a clone: builds the program and the library, and puts bin/ruzhtylen, lib/libruzhtylen.a,\n",
+        b"In a clone: builds the program and the library, and puts bin/ruzhtylen with its program in\n",
     ) {
         return false;
     }
-    io::write_all(
+    if !io::write_all(
         fd,
-        b"include/ruzhtylen.h and the manual page under PREFIX. They need no kit to be used.\n",
-    )
+        b"libexec/ruzhtylen, lib/libruzhtylen.a, include/ruzhtylen.h and the manual page under PREFIX.\n",
+    ) {
+        return false;
+    }
+    io::write_all(fd, b"They need no kit to be used.\n")
 }
 
 fn text_lines(fd: i32) -> bool {
@@ -253,7 +257,7 @@ fn both(first: bool, second: bool) -> bool {
 }
 
 fn all(fd: i32) -> bool {
-    both(usage_lines(fd), options_lines(fd))
+    both(both(usage_lines(fd), words_lines(fd)), options_lines(fd))
 }
 
 // Says what a word does; what all words do where it is none. It gives whether all was written.

@@ -63,7 +63,7 @@ fn change_form(asked: Asked, to_block: bool) -> u8 {
         return wrong(b"--block is an option of key, mark and bounds\n");
     }
     if asked.names != 1 {
-        return wrong(b"block and text take one FILE; 'ruzhtylen help block' says more\n");
+        return wrong(b"block and text take one FILE; 'ruzhtylen help' says more\n");
     }
     if to_block {
         return words::block(asked);

@@ -7,18 +7,30 @@ use reasons::reason::Reason;
 use records::job::Job;
 use records::refusal::Counted;
 
-// Says a refusal of the file that is argument i.
-fn say_refusal(i: usize, number: u8, source: Source, reason: Reason) -> u8 {
+// A range that an option gave is no file's.
+fn say_about(i: usize, optioned: bool, number: u8, text: &[u8]) {
+    if optioned {
+        if number == 6 {
+            say::message(b"--quanta: ");
+            say::message(text);
+            return;
+        }
+    }
+    say::about(i, text);
+}
+
+// Says a refusal of the file that is argument i, or of the option.
+fn say_refusal(i: usize, number: u8, optioned: bool, source: Source, reason: Reason) -> u8 {
     let naming = source.naming;
     let lines = source.lines;
     let mut output = [0u8; text::refusal::SIZE];
     let length = text::refusal::put_refusal(number, naming, lines, reason, &mut output);
-    say::about(i, &output[..length]);
+    say_about(i, optioned, number, &output[..length]);
     say::NOT_ANSWERED
 }
 
-// Says why a list or the range is refused; the list is argument i.
-pub fn refuse_list(i: usize, list: Source, quanta: Quanta, number: u8) -> u8 {
+// Says why a list or the range is refused; the list is argument i, and `optioned` says that the range is an option's.
+pub fn refuse_list(i: usize, optioned: bool, list: Source, quanta: Quanta, number: u8) -> u8 {
     let bytes = list.bytes;
     let kept = slices::within(list.kept, &bytes);
     let jobs = records::block::read_unjudged(&bytes[..kept]);
@@ -30,7 +42,7 @@ pub fn refuse_list(i: usize, list: Source, quanta: Quanta, number: u8) -> u8 {
         quanta.low,
         quanta.high,
     );
-    say_refusal(i, number, list, reason)
+    say_refusal(i, number, optioned, list, reason)
 }
 
 // Says why a configuration is refused for a list and a range that are accepted; the configuration is argument i.
@@ -51,17 +63,17 @@ pub fn refuse_hand_in(i: usize, hand_in: Source, list: Source, quanta: Quanta, n
         jobs_kept / Job::SIZE,
         range,
     );
-    say_refusal(i, number, hand_in, reason)
+    say_refusal(i, number, false, hand_in, reason)
 }
 
 // Whether a list, which is argument i, or its range is refused; then why is said.
-pub fn is_refused(i: usize, list: Source, quanta: Quanta) -> bool {
+pub fn is_refused(i: usize, optioned: bool, list: Source, quanta: Quanta) -> bool {
     let bytes = list.bytes;
     let kept = slices::within(list.kept, &bytes);
     let call = records::call::read_call(&bytes[..kept], quanta.low, quanta.high);
     let answer = call.answer;
     if let Counted::Refused(refusal) = answer {
-        refuse_list(i, list, quanta, refusal.number());
+        refuse_list(i, optioned, list, quanta, refusal.number());
         return true;
     }
     false

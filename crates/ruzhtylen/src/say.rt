@@ -39,6 +39,9 @@ pub fn worse(a: u8, b: u8) -> u8 {
 pub fn argument(fd: i32, i: usize) -> bool {
     let mut argument = io::buffer();
     let length = os::arg(i, &mut argument);
+    if os::errno() != 0 {
+        return io::write_all(fd, b"of more than 4096 bytes");
+    }
     command::show(&mut argument);
     let shown = slices::within(length, &argument);
     io::write_all(fd, &argument[..shown])

@@ -26,7 +26,7 @@ fn is_whole(size: u32, width: u32) -> bool
 
 fn list_text(i: usize, list: Source) -> u8 {
     if !is_whole(list.size, 8) {
-        return refused::refuse_list(i, list, Quanta { low: 1, high: 4 }, 1);
+        return refused::refuse_list(i, false, list, Quanta { low: 1, high: 4 }, 1);
     }
     let bytes = list.bytes;
     let kept = slices::within(list.kept, &bytes);

@@ -27,7 +27,7 @@ pub fn key(asked: Asked) -> u8 {
         Answered::Yes => say::answer(say::YES, &output[..length]),
         Answered::No => say::answer(say::NO, &output[..length]),
         Answered::Refused(refusal) => {
-            refused::refuse_list(asked.first, list, quanta, refusal.number())
+            refused::refuse_list(asked.first, asked.ranged, list, quanta, refusal.number())
         }
     }
 }
@@ -63,7 +63,7 @@ pub fn bounds(asked: Asked) -> u8 {
         return say::NOT_ANSWERED;
     }
     let quanta = quanta::quanta_of(asked, list);
-    if refused::is_refused(asked.first, list, quanta) {
+    if refused::is_refused(asked.first, asked.ranged, list, quanta) {
         return say::NOT_ANSWERED;
     }
     let hand_in = source::load(asked.second, Form::Setting, asked.blocks);
@@ -85,6 +85,10 @@ pub fn block(asked: Asked) -> u8 {
             asked.first,
             b"note: a block does not hold the range of the line quanta\n",
         );
+    }
+    if source.kept == 0 {
+        say::about(asked.first, b"no line has a record\n");
+        return say::NOT_ANSWERED;
     }
     let bytes = source.bytes;
     let kept = slices::within(source.kept, &bytes);

@@ -12,7 +12,7 @@ answered Yes = given true
 answered No = given false
 answered (Refused refusal) = refused (number refusal)
 
--- With where the last line begins, and the length of the text.
+-- With where the lines of the jobs end, and the length of the text.
 abbrev pub placed : Answer Bool → ℕ → ℕ → Answer (Bool × (ℕ × ℕ))
 placed (refused k) last length = refused k
 placed (given b) last length = given (b, (last, length))

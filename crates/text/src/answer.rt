@@ -11,7 +11,8 @@ pub enum Answered {
     Refused(Refusal),
 }
 
-// The answer, where the last line of the text begins, and the text's length; beside a refusal the two say nothing.
+// The answer, where the lines of the jobs end and what is said of them all begins, and the text's length; beside a refusal the two say
+// nothing.
 pub struct Told {
     pub answer: Answered,
     pub last: usize,

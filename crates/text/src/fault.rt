@@ -36,7 +36,15 @@ fn put_message(output: &mut [u8], at: usize, fault: Fault) -> usize
             buffer::put_filled(
                 output,
                 at,
-                b"the policy is none of none, fifo and rr, and no number",
+                b"the policy is none of none, fifo, rr, 0, 1 and 2",
+                [0u32; 4],
+            )
+        }
+        Fault::LoneReturn => {
+            buffer::put_filled(
+                output,
+                at,
+                b"a carriage return within the line; a line feed ends a line",
                 [0u32; 4],
             )
         }

@@ -1,35 +1,26 @@
 use mathlib.Core.Path.{sym, ap, _∙_}
-use mathlib.Core.List.{List}
-use Prim.Native.Nat.{ℕ}
-use native.Mathlib.Omega.{arith}
-use native.Mathlib.Nat.{zero-add}
-use lib.ListN.{length, take}
-use lib.Seq.{length-take-le}
-use Rattle.lists.specs.declared.words.Mark.the-variants.{Comment}
-use Rattle.lists.specs.Words.{isMark, before, words}
-use Rattle.lists.specs.Rows.{wordsLine, readLine}
-use Rattle.lists.proofs.Parsing.{before-take, before-within}
+use mathlib.Core.Bool.{Bool, cond}
+use Rattle.lists.specs.declared.fault.Fault.the-variants.{LoneReturn}
+use Rattle.lists.specs.declared.rows.LineAnswer.the-variants.{Wrong as LineWrong}
+use Rattle.lists.specs.Rows.{plainLine, readLine}
 use borrow.Author.Needs.{needs}
 use Rattle.lists.proofs.rows.read_line.Statement.{statement}
 use Rattle.lists.proofs.rows.read_line.Tie as tie
 
-find-requires : tie.Need-find-requires
-find-requires c κs = search needs
-
-slice-aggregate-read-content : tie.Need-slice-aggregate-read-content
-slice-aggregate-read-content c = sym (length-take-le _ _ (omega (arith, c .before .find .ensures, before-within (isMark Comment) (c .before .before .before .args .line .now) 0 (omega arith))))
-
-read-content-requires : tie.Need-read-content-requires
-read-content-requires c κs = search needs
+has-lone-return-requires : tie.Need-has-lone-return-requires
+has-lone-return-requires c κs = search needs
 
 returns : tie.Need-returns
 unfolding readLine
-returns c =
-    let f = c .before .before in
-    let a = f .before .before .args in
-    let line = a .line .now in
-    c .read-content .ensures ∙ ap (λ (l : List ℕ). wordsLine (a .form) (words l)) (ap (λ (k : ℕ). take k line) (f .find .ensures ∙ zero-add (length (before (isMark Comment) line))) ∙ before-take (isMark Comment) line)
+returns c = let a = c .before .before .before .args in sym (ap (λ (b : Bool). cond b (LineWrong LoneReturn) (plainLine (a .form) (a .line .now))) (sym (c .before .has-lone-return .ensures) ∙ c .if1 .taken))
+
+read-plain-requires : tie.Need-read-plain-requires
+read-plain-requires c κs = search needs
+
+returns-2 : tie.Need-returns-2
+unfolding readLine
+returns-2 c = let a = c .before .before .before .before .args in c .read-plain .ensures ∙ sym (ap (λ (b : Bool). cond b (LineWrong LoneReturn) (plainLine (a .form) (a .line .now))) (sym (c .before .before .has-lone-return .ensures) ∙ c .before .if1 .left))
 
 pub read-line-spec : {M : Type 1} → statement M
 read-line-spec =
-    tie.close (tie.spec find-requires slice-aggregate-read-content read-content-requires returns)
+    tie.close (tie.spec has-lone-return-requires returns read-plain-requires returns-2)

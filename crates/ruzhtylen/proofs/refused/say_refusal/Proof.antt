@@ -10,11 +10,11 @@ put-refusal-requires c κs = search needs
 array-share-prefix-output : tie.Need-array-share-prefix-output
 array-share-prefix-output c = search needs
 
-slice-aggregate-about : tie.Need-slice-aggregate-about
-slice-aggregate-about c = sym (length-take-le _ _ (c .before .put-refusal .ensures .0))
+slice-aggregate-say-about : tie.Need-slice-aggregate-say-about
+slice-aggregate-say-about c = sym (length-take-le _ _ (c .before .put-refusal .ensures .0))
 
-about-requires : tie.Need-about-requires
-about-requires c κs = search needs
+say-about-requires : tie.Need-say-about-requires
+say-about-requires c κs = search needs
 
 returns : tie.Need-returns
 returns c = search needs
@@ -25,6 +25,6 @@ say-refusal-spec =
     (tie.spec
     put-refusal-requires
     array-share-prefix-output
-    slice-aggregate-about
-    about-requires
+    slice-aggregate-say-about
+    say-about-requires
     returns)

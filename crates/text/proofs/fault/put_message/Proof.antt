@@ -13,8 +13,8 @@ enum-known-fault c = search needs
 slice-aggregate-put-filled : tie.Need-slice-aggregate-put-filled
 slice-aggregate-put-filled c = search needs
 
-cast-t20 : tie.Need-cast-t20
-cast-t20 c = search needs
+cast-t21 : tie.Need-cast-t21
+cast-t21 c = search needs
 
 put-filled-requires : tie.Need-put-filled-requires
 put-filled-requires c κs = search needs
@@ -25,11 +25,11 @@ enum-known-fault-2 c = search needs
 slice-aggregate-put-filled-2 : tie.Need-slice-aggregate-put-filled-2
 slice-aggregate-put-filled-2 c = search needs
 
-cast-t26 : tie.Need-cast-t26
-cast-t26 c = search needs
-
 cast-t27 : tie.Need-cast-t27
 cast-t27 c = search needs
+
+cast-t28 : tie.Need-cast-t28
+cast-t28 c = search needs
 
 put-filled-requires-2 : tie.Need-put-filled-requires-2
 put-filled-requires-2 c κs = search needs
@@ -87,6 +87,15 @@ slice-aggregate-put-filled-8 c = search needs
 
 put-filled-requires-8 : tie.Need-put-filled-requires-8
 put-filled-requires-8 c κs = search needs
+
+enum-told-7 : tie.Need-enum-told-7
+enum-told-7 c = search needs
+
+slice-aggregate-put-filled-9 : tie.Need-slice-aggregate-put-filled-9
+slice-aggregate-put-filled-9 c = search needs
+
+put-filled-requires-9 : tie.Need-put-filled-requires-9
+put-filled-requires-9 c κs = search needs
 
 same-length : tie.Need-same-length
 same-length c = search needs
@@ -160,18 +169,27 @@ returns-8 c =
     let put = c .before .before in
     retold (widened 600 (put .put-filled8 .ensures) (omega arith)) (sym (ap message (put .before .before .before .enum-told6 .given .1)))
 
+same-length-9 : tie.Need-same-length-9
+same-length-9 c = search needs
+
+returns-9 : tie.Need-returns-9
+unfolding filled
+returns-9 c =
+    let put = c .before .before in
+    retold (widened 600 (put .put-filled9 .ensures) (omega arith)) (sym (ap message (put .before .before .before .enum-told7 .given .1)))
+
 pub put-message-spec : {M : Type 1} → statement M
 put-message-spec =
     tie.close
     (tie.spec
     enum-known-fault
     slice-aggregate-put-filled
-    cast-t20
+    cast-t21
     put-filled-requires
     enum-known-fault-2
     slice-aggregate-put-filled-2
-    cast-t26
     cast-t27
+    cast-t28
     put-filled-requires-2
     enum-told
     slice-aggregate-put-filled-3
@@ -191,6 +209,9 @@ put-message-spec =
     enum-told-6
     slice-aggregate-put-filled-8
     put-filled-requires-8
+    enum-told-7
+    slice-aggregate-put-filled-9
+    put-filled-requires-9
     same-length
     returns
     same-length-2
@@ -206,4 +227,6 @@ put-message-spec =
     same-length-7
     returns-7
     same-length-8
-    returns-8)
+    returns-8
+    same-length-9
+    returns-9)
