@@ -70,7 +70,7 @@ fn of_rows(form: Form, read: RowsRead, n: usize) -> BlockRead
     }
 }
 
-// Reads a text, and gives its block.
+// Reads a text, and gives its block. No entry; it judges nothing.
 pub fn read_block(form: Form, text: &[u8]) -> BlockRead
     ensures { λ r. ⌜ (blockOutcome r ≡ blockReading form (readText form (now (text .entry)))) × (r .size ≤ 64) ⌝ }
 {

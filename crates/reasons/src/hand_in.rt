@@ -21,7 +21,7 @@ fn count_reason(size: u32, n: usize) -> Reason
     reason::on_whole(Sentence::SettingBytes, size, 0)
 }
 
-// The reason of a placed setting: its level, else its quantum.
+// What is wrong with the shape of a setting: its policy, else its level, else its quantum.
 fn shape_reason(at: usize, n: usize, range: Range, setting: Setting) -> Reason
     requires { ⌜ n ≤ mostJobs ⌝ }
     ensures { λ r. ⌜ r ≡ shapeReason at n (range .low) (range .high) setting ⌝ }
