@@ -1,19 +1,22 @@
 -- What a caller of read_call knows from its answer, whatever tests stand between the range and what follows. Assumes nothing.
 use Prim.Native.Nat.{ℕ, _≤_}
 use mathlib.Core.Path.{_≡_, sym, ap, subst, _∙_}
-use mathlib.Core.List.{List, _++_}
+use mathlib.Core.List.{List, [], _++_, append-nil}
 use native.Mathlib.Omega.{arith}
 use lib.ListN.{length, take, length-take}
 use Rattle.records.specs.Limits.{mostJobs}
-use Rattle.records.specs.Refusals.{Tests, outcome, answer, refusalOf, turned, Accepts}
+use Rattle.records.specs.Refusals.{Answer, refused, given, number, Tests, outcome, answer, verdict, handed, refusalOf, turned, Accepts}
 use Rattle.records.specs.Jobs.{tableTests, AcceptedJobs, blockTests, jobCount, jobList}
 use Rattle.records.specs.Ranges.{rangeOf, rangeTests}
-use Rattle.records.specs.Calls.{Asked, asked, callTests, questionTests, question}
+use Rattle.records.specs.Calls.{Asked, asked, callTests, questionTests, question, readCall}
 use Rattle.records.specs.declared.range.Range.{Range}
 use Rattle.records.specs.declared.call.Call.{Call}
 use Rattle.records.specs.declared.refusal.Refusal.{Refusal}
+use Rattle.records.specs.declared.refusal.Verdict.{Verdict}
+use Rattle.records.specs.declared.refusal.Verdict.the-variants.{Accepted, Refused as NotAccepted}
+use Rattle.records.specs.declared.refusal.Counted.{Counted}
 use Rattle.records.specs.declared.refusal.Counted.the-variants.{Count, Refused}
-use Rattle.records.proofs.Outcomes.{handed-on, turned-down, gone-past, refused-as, accepts-both, accepts-first, accepts-second}
+use Rattle.records.proofs.Outcomes.{handed-on, turned-by, passed-by, turned-down, gone-past, refused-as, accepts-both, accepts-first, accepts-second}
 use Rattle.records.proofs.JobTests.{accepted-table}
 use Rattle.records.proofs.Reading.{jobs-listed, count-most, accepted-list}
 
@@ -74,3 +77,32 @@ module _ (jobs : List ℕ) (low high : ℕ) (more : Tests) (call : Call) (is : a
     -- Gone past: the later tests decide.
     pub call-on : (n : ℕ) → call .answer ≡ Count n → outcome (tests ++ later) values new old ≡ outcome later values new old
     call-on n e = gone-past tests (question jobs low high) tt tt (call .answer) value is later values new old n e
+
+-- An entry's own tests after the range, `more`: a call that was turned down before them, one that they turn down, and one that they let by.
+module _ (jobs : List ℕ) (low high : ℕ) (call : Call) (is : asked call ≡ readCall jobs low high) (more : Tests) where
+  abbrev asked-value : ℕ → Asked
+  asked-value n = (n, (take n (call .table), call .range))
+
+  abbrev longer : Answer Asked
+  longer = answer (callTests jobs low high ++ more) (question jobs low high)
+
+  pub more-before : (k : Refusal) → call .answer ≡ Refused k → asked call ≡ longer
+  more-before k e =
+      ap (λ (x : Counted). handed x asked-value) e
+      ∙ sym (ap (λ (x : Answer Asked × Unit {0}). x .0) (turned-down (callTests jobs low high) (question jobs low high) tt tt (call .answer) asked-value is more (question jobs low high) tt tt k e))
+
+  module _ (n : ℕ) (count : call .answer ≡ Count n) (v : Verdict) (judged : verdict v ≡ answer more tt) where
+    past-range : longer ≡ answer (more ++ []) (question jobs low high)
+    past-range =
+        ap (λ (x : Answer Asked × Unit {0}). x .0) (gone-past (callTests jobs low high) (question jobs low high) tt tt (call .answer) asked-value is more (question jobs low high) tt tt n count)
+        ∙ ap (λ (t : Tests). answer t (question jobs low high)) (sym (append-nil more))
+
+    pub more-turned : (refusal : Refusal) → v ≡ NotAccepted refusal → refused (number refusal) ≡ longer
+    more-turned refusal e = sym (past-range ∙ ap (λ (x : Answer Asked × Unit {0}). x .0) (turned-by more [] (question jobs low high) tt tt v judged refusal e))
+
+    pub more-on : v ≡ Accepted → asked call ≡ longer
+    more-on e =
+        let on = handed-on (callTests jobs low high) (question jobs low high) tt tt (call .answer) asked-value is n count in
+        ap (λ (x : Counted). handed x asked-value) count
+        ∙ ap given (on .1)
+        ∙ sym (past-range ∙ ap (λ (x : Answer Asked × Unit {0}). x .0) (passed-by more [] (question jobs low high) tt tt v judged e))

@@ -12,9 +12,12 @@ use lib.Seq.{ext-getD, drop-cons, drop-drop, set-at, append-snoc, take-all, take
 use borrow.Author.Tests.{lt-leb, le-leb, leb-true}
 use Rattle.sets.specs.Places.{listOf}
 use Rattle.sets.proofs.Places.{list-suc, list-length, list-at}
-use Rattle.records.specs.Refusals.{Answer, given, refused}
+use Rattle.records.specs.Refusals.{Answer, refused, given, number, outcome, verdict, counted, verdictOf}
+use Rattle.records.specs.declared.refusal.Verdict.{Verdict}
+use Rattle.records.specs.declared.refusal.Counted.{Counted}
+use Rattle.records.specs.declared.refusal.Counted.the-variants.{Count, Refused}
 use Rattle.records.specs.Records.{word, wordOf, wordBytes, flat, chunks, table, written, roomTests, writeRecords}
-use Rattle.records.proofs.Outcomes.{gives}
+use Rattle.records.proofs.Outcomes.{accepts, keeps, gives, refuses-alike}
 
 -- ---- lists of records
 
@@ -174,6 +177,20 @@ wrote-within w bytes xs output got size e f =
     let need : ℕ = w * length xs in
     let told = gives (roomTests need (length output)) need (written w bytes xs output) output got size e f in
     omega (arith, told .1, leb-true need (length output) (told .0 .0))
+
+-- What a writer comes to where its count is not told.
+pub wrote-done : {A : Type 0} (w : ℕ) (bytes : A → List ℕ) (xs : List A) (output : List ℕ) (wrote : Counted) (after : List ℕ) → (counted wrote, after) ≡ writeRecords w bytes xs output
+    → (v : Verdict) → v ≡ verdictOf wrote → (verdict v, after) ≡ outcome (roomTests (w * length xs) (length output)) tt (written w bytes xs output) output
+unfolding writeRecords
+wrote-done w bytes xs output (Count n) after e v f =
+    let tests = roomTests (w * length xs) (length output) in
+    let told = gives tests (w * length xs) (written w bytes xs output) output (counted (Count n), after) n e refl in
+    ap₂ (λ (x : Verdict) (l : List ℕ). (verdict x, l)) f (told .2) ∙ sym (accepts tt (written w bytes xs output) output tests (told .0))
+wrote-done w bytes xs output (Refused refusal) after e v f =
+    let tests = roomTests (w * length xs) (length output) in
+    let told : outcome tests (w * length xs) (written w bytes xs output) output .0 ≡ refused (number refusal) = ap (λ (x : Answer ℕ × List ℕ). x .0) (sym e) in
+    ap₂ (λ (x : Verdict) (l : List ℕ). (verdict x, l)) f (ap (λ (x : Answer ℕ × List ℕ). x .1) e ∙ keeps (w * length xs) (written w bytes xs output) output tests (number refusal) told)
+    ∙ sym (refuses-alike tests (w * length xs) (written w bytes xs output) output tt (written w bytes xs output) output (number refusal) told)
 
 -- ---- the round trips, from the round trip of one record
 

@@ -1,5 +1,7 @@
 pub mod Outcomes
 pub mod FixedWidth
+pub mod Mapped
+pub mod BlockReading
 pub mod JobRecords
 pub mod JobTests
 pub mod RoundTrip

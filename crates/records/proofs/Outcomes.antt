@@ -7,7 +7,7 @@ use native.Mathlib.Omega.{arith}
 use lib.Dec.{lit<}
 use Rattle.records.specs.Refusals.{Answer, refused, given, number, Tests, outcome, answer, verdict, handed, refusalOf, turned, Accepts}
 use Rattle.records.specs.declared.refusal.Refusal.{Refusal}
-use Rattle.records.specs.declared.refusal.Refusal.the-variants.{JobCount, JobId, IdOrder, Place, JobTimes, QuantumRange, ConfigurationSize, ConfigurationIds, RecordShape, LevelSharing, NotPlaced, OutputLength}
+use Rattle.records.specs.declared.refusal.Refusal.the-variants.{JobCount, JobId, IdOrder, Place, JobTimes, QuantumRange, ConfigurationSize, ConfigurationIds, RecordShape, LevelSharing, NotPlaced, OutputLength, PriorityRange, KernelPriority}
 use Rattle.records.specs.declared.refusal.Verdict.{Verdict}
 use Rattle.records.specs.declared.refusal.Verdict.the-variants.{Accepted, Refused as NotAccepted}
 use Rattle.records.specs.declared.refusal.Counted.{Counted}
@@ -111,6 +111,8 @@ number-byte refusal = elim refusal [
   | LevelSharing ↦ (lit< tt, lit< tt)
   | NotPlaced ↦ (lit< tt, lit< tt)
   | OutputLength ↦ (lit< tt, lit< tt)
+  | PriorityRange ↦ (lit< tt, lit< tt)
+  | KernelPriority ↦ (lit< tt, lit< tt)
 ]
 
 -- ---- a part of the way in: its answer decides what a call with more tests comes to, whatever tests follow

@@ -1,8 +1,8 @@
 // Why a call is turned down.
 ghost use mathlib.Core.Path.{_≡_};
-ghost use Rattle.records.specs.Refusals.{number, refusalOf};
+ghost use Rattle.records.specs.Refusals.{number, refusalOf, verdictOf};
 
-// A case for each line of 01's list.
+// A case for each line of 01's list, and for those that 02 adds.
 pub enum Refusal {
     JobCount,
     JobId,
@@ -16,6 +16,8 @@ pub enum Refusal {
     LevelSharing,
     NotPlaced,
     OutputLength,
+    PriorityRange,
+    KernelPriority,
 }
 
 impl Refusal {
@@ -36,6 +38,8 @@ impl Refusal {
             Refusal::LevelSharing => 10,
             Refusal::NotPlaced => 11,
             Refusal::OutputLength => 12,
+            Refusal::PriorityRange => 13,
+            Refusal::KernelPriority => 14,
         }
     }
 }
@@ -59,5 +63,15 @@ pub fn refusal_of(answer: Counted) -> Refusal
     match answer {
         Counted::Count(_) => Refusal::JobCount,
         Counted::Refused(refusal) => refusal,
+    }
+}
+
+// An answer without its count. No entry.
+pub fn verdict_of(answer: Counted) -> Verdict
+    ensures { λ r. ⌜ r ≡ verdictOf answer ⌝ }
+{
+    match answer {
+        Counted::Count(_) => Verdict::Accepted,
+        Counted::Refused(refusal) => Verdict::Refused(refusal),
     }
 }
