@@ -9,7 +9,7 @@ use Rattle.records.specs.Refusals.{Answer, refused, given}
 use Rattle.records.specs.Jobs.{jobOf, jobList, timesOk}
 use Rattle.records.proofs.Cases.{row}
 use Rattle.configuration.specs.Settings.{settingBytes, settingsIn}
-use Rattle.configuration.specs.Configuration.{placedLevel, shaped, levelled}
+use Rattle.configuration.specs.Configuration.{placedLevel, scheduled, shaped, mayShare}
 use Rattle.configuration.specs.Blocks.{readConfiguration, readFull, writeConfiguration}
 
 -- A case: a job block, a range, a configuration block, and what the reader is to answer, or the one for full configurations; or a table of
@@ -77,5 +77,5 @@ cases =
     ∷ []
 
 pub edges : map answered cases ≡ map due cases
-unfolding row answered due three good cases every sum sumOver count wordBytes flat chunks jobOf timesOk settingBytes placedLevel shaped levelled readConfiguration readFull writeConfiguration
+unfolding row answered due three good cases every sum sumOver count wordBytes flat chunks jobOf timesOk settingBytes placedLevel scheduled shaped mayShare readConfiguration readFull writeConfiguration
 edges = refl

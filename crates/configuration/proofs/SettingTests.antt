@@ -15,12 +15,12 @@ use Rattle.configuration.specs.declared.setting.Setting.{Setting}
 use Rattle.configuration.specs.declared.judge.SettingRule.{SettingRule}
 use Rattle.configuration.specs.declared.judge.SettingRule.the-variants.{Id, Shape, Sharing, Placed}
 use Rattle.configuration.specs.Settings.{blankSetting, settingAt}
-use Rattle.configuration.specs.Configuration.{shaped, onLevel, levelled, isPlaced, settingOk, allOk}
+use Rattle.configuration.specs.Configuration.{shaped, onLevel, mayShare, levelled, isPlaced, settingOk, allOk}
 
 levelled-same : (n : ℕ) (a b : List Setting) (setting : Setting) → ((i : ℕ) → i < n → settingAt a i ≡ settingAt b i) → levelled n a setting ≡ levelled n b setting
-unfolding levelled
 levelled-same n a b setting same =
-    rw (count-same n (onLevel a (setting .level)) (onLevel b (setting .level)) (λ i l. ap (λ (x : Setting). eqb (x .level) (setting .level)) (same i l)))
+    ap (mayShare (setting .policy))
+    (count-same n (onLevel a (setting .level)) (onLevel b (setting .level)) (λ i l. ap (λ (x : Setting). eqb (x .level) (setting .level)) (same i l)))
 
 -- The rule at a place, of jobs and settings that are the same at the first n places.
 module _ (n : ℕ) (jobs jobs′ : List Job) (low high : ℕ) (a b : List Setting)

@@ -15,7 +15,7 @@ use Rattle.configuration.specs.declared.judge.SettingRule.the-variants.{
 use Rattle.configuration.specs.Settings.{notPlaced, fifo, roundRobin, settingAt}
 use Rattle.configuration.specs.Configuration.{placedLevel, shaped, onLevel, sharing, levelled, settingOk, Configuration}
 use Rattle.configuration.specs.Shape.{Shape as ShapeOf, unplaced, alone, shared, Shapes}
-use Rattle.configuration.proofs.Policies.{level-of, of-level, shaped-unplaced, shaped-off, shaped-fifo, shaped-robin, shaped-other, levelled-fifo, levelled-robin, levelled-other}
+use Rattle.configuration.proofs.Policies.{level-of, of-level, scheduled-fifo, scheduled-robin, scheduled-other, shaped-unplaced, shaped-off, shaped-on, share-fifo, share-robin, share-other}
 
 -- ---- one setting beside the others
 
@@ -47,31 +47,31 @@ module _ (n low high : ℕ) (settings : List Setting) (k : ℕ) (kn : k < n) whe
       placed p e = elim (ℕ-discrete (setting .policy) fifo) [
         | yes q ↦
             let v = level-of n (setting .level) e in
-            let c : sharing n settings (setting .level) ≡ 1 = eqb-true _ _ (sym (levelled-fifo n settings setting q) ∙ l) in
-            alone q (v .0) (v .1) (eqb-true _ _ (sym (shaped-fifo n low high setting q e) ∙ s))
+            let c : sharing n settings (setting .level) ≡ 1 = eqb-true _ _ (sym (share-fifo (setting .policy) _ q) ∙ l) in
+            alone q (v .0) (v .1) (eqb-true _ _ (sym (shaped-on n low high setting p e ∙ scheduled-fifo low high _ _ q) ∙ s))
             (λ i il x. count-only n (onLevel settings (setting .level)) i k c il kn (eq-eqb _ _ x) here)
         | no q ↦ elim (ℕ-discrete (setting .policy) roundRobin) [
           | yes r ↦
               let v = level-of n (setting .level) e in
-              let w = and-eq-true-iff (leb low (setting .quantum)) (leb (setting .quantum) high) .0 (sym (shaped-robin n low high setting r e) ∙ s) in
-              let o = count-other n (onLevel settings (setting .level)) k (leb-true 2 _ (sym (levelled-robin n settings setting r) ∙ l)) in
+              let w = and-eq-true-iff (leb low (setting .quantum)) (leb (setting .quantum) high) .0 (sym (shaped-on n low high setting p e ∙ scheduled-robin low high _ _ r) ∙ s) in
+              let o = count-other n (onLevel settings (setting .level)) k (leb-true 2 _ (sym (share-robin (setting .policy) _ r) ∙ l)) in
               shared r (v .0) (v .1) (leb-true _ _ (w .0)) (leb-true _ _ (w .1)) (o .0) (o .1) (eqb-true _ _ (o .2)) (o .3)
-          | no r ↦ absurd (false≢true (sym (shaped-other n low high setting p q r) ∙ s))
+          | no r ↦ absurd (false≢true (sym (shaped-on n low high setting p e ∙ scheduled-other low high _ _ q r) ∙ s))
         ]
       ]
 
   -- From the shape tests 9 and 10.
   shape-9 : ShapeOf n low high settings k → shaped n low high setting ≡ true
   shape-9 (unplaced p v q) = shaped-unplaced n low high setting p ∙ simp (eq-eqb _ _ v, eq-eqb _ _ q)
-  shape-9 (alone p a b q u) = shaped-fifo n low high setting p (of-level n (setting .level) a b) ∙ eq-eqb _ _ q
-  shape-9 (shared p a b q r i il x y) = shaped-robin n low high setting p (of-level n (setting .level) a b) ∙ simp (le-leb _ _ q, le-leb _ _ r)
+  shape-9 (alone p a b q u) = shaped-on n low high setting (λ z. omega arith) (of-level n (setting .level) a b) ∙ scheduled-fifo low high _ _ p ∙ eq-eqb _ _ q
+  shape-9 (shared p a b q r i il x y) = shaped-on n low high setting (λ z. omega arith) (of-level n (setting .level) a b) ∙ scheduled-robin low high _ _ p ∙ simp (le-leb _ _ q, le-leb _ _ r)
 
   shape-10 : ShapeOf n low high settings k → levelled n settings setting ≡ true
-  shape-10 (unplaced p v q) = levelled-other n settings setting (λ z. omega arith) (λ z. omega arith)
+  shape-10 (unplaced p v q) = share-other (setting .policy) _ (λ z. omega arith) (λ z. omega arith)
   shape-10 (alone p a b q u) =
-      levelled-fifo n settings setting p ∙ eq-eqb _ _ (count-alone n (onLevel settings (setting .level)) k kn here (λ i il x. u i il (eqb-true _ _ x)))
+      share-fifo (setting .policy) _ p ∙ eq-eqb _ _ (count-alone n (onLevel settings (setting .level)) k kn here (λ i il x. u i il (eqb-true _ _ x)))
   shape-10 (shared p a b q r i il x y) =
-      levelled-robin n settings setting p ∙ le-leb _ _ (count-two n (onLevel settings (setting .level)) i k y il kn (eq-eqb _ _ x) here)
+      share-robin (setting .policy) _ p ∙ le-leb _ _ (count-two n (onLevel settings (setting .level)) i k y il kn (eq-eqb _ _ x) here)
 
 -- ---- the configuration
 

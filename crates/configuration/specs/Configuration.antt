@@ -21,12 +21,17 @@ abbrev pub isNotPlaced : Setting → Bool
 isNotPlaced setting = eqb (setting .policy) notPlaced && eqb (setting .level) 0 && eqb (setting .quantum) 0
 
 -- "Policy 1 is sched_fifo (quantum 0)."
-abbrev pub isFifo : Setting → Bool
-isFifo setting = eqb (setting .policy) fifo && eqb (setting .quantum) 0
+abbrev pub isFifo : ℕ → ℕ → Bool
+isFifo policy quantum = eqb policy fifo && eqb quantum 0
 
 -- "Policy 2 is sched_rr (quantum from the lowest to the highest permitted)."
-abbrev pub isRoundRobin : ℕ → ℕ → Setting → Bool
-isRoundRobin low high setting = eqb (setting .policy) roundRobin && leb low (setting .quantum) && leb (setting .quantum) high
+abbrev pub isRoundRobin : ℕ → ℕ → ℕ → ℕ → Bool
+isRoundRobin low high policy quantum = eqb policy roundRobin && leb low quantum && leb quantum high
+
+-- What is asked of a placed job besides its level: one of the two policies, with its quantum. Kernel records have no level, and are asked
+-- this alone (02, E5).
+unfoldable pub scheduled : ℕ → ℕ → ℕ → ℕ → Bool
+scheduled low high policy quantum = isFifo policy quantum || isRoundRobin low high policy quantum
 
 -- "A placed job's level is 1 to n, n being the number of jobs."
 unfoldable pub placedLevel : ℕ → ℕ → Bool
@@ -34,7 +39,7 @@ placedLevel n level = leb 1 level && leb level n
 
 -- The record has one of the three shapes.
 unfoldable pub shaped : ℕ → ℕ → ℕ → Setting → Bool
-shaped n low high setting = isNotPlaced setting || (placedLevel n (setting .level) && (isFifo setting || isRoundRobin low high setting))
+shaped n low high setting = isNotPlaced setting || (placedLevel n (setting .level) && scheduled low high (setting .policy) (setting .quantum))
 
 -- ---- refusal 10: who shares a level
 
@@ -45,11 +50,12 @@ onLevel settings level i = eqb (levelAt settings i) level
 abbrev pub sharing : ℕ → List Setting → ℕ → ℕ
 sharing n settings level = count n (onLevel settings level)
 
--- A policy 1 job is alone on its level, a policy 2 job is not.
-unfoldable pub levelled : ℕ → List Setting → Setting → Bool
-levelled n settings setting =
-    (not (eqb (setting .policy) fifo) || eqb (sharing n settings (setting .level)) 1)
-    && (not (eqb (setting .policy) roundRobin) || leb 2 (sharing n settings (setting .level)))
+-- A policy 1 job is alone, a policy 2 job is not; `jobs` is the number of jobs where it stands, itself included.
+unfoldable pub mayShare : ℕ → ℕ → Bool
+mayShare policy jobs = (not (eqb policy fifo) || eqb jobs 1) && (not (eqb policy roundRobin) || leb 2 jobs)
+
+abbrev pub levelled : ℕ → List Setting → Setting → Bool
+levelled n settings setting = mayShare (setting .policy) (sharing n settings (setting .level))
 
 -- ---- refusal 11: who is placed
 

@@ -5,7 +5,7 @@ ghost use lib.ListN.{take};
 ghost use Rattle.sets.specs.Places.{failing};
 ghost use Rattle.records.specs.Limits.{mostJobs};
 ghost use Rattle.records.specs.Refusals.{answer, verdict};
-ghost use Rattle.configuration.specs.Configuration.{placedLevel, shaped, sharing, levelled, settingOk, allOk, settingTests};
+ghost use Rattle.configuration.specs.Configuration.{placedLevel, scheduled, shaped, sharing, mayShare, levelled, settingOk, allOk, settingTests};
 use crate::setting::Setting;
 use records::job::Job;
 use records::range::Range;
@@ -22,6 +22,22 @@ fn is_level(n: usize, level: u8) -> bool
     level as usize <= n
 }
 
+// Whether a placed job has one of the two policies, with its quantum. No entry.
+pub fn is_scheduled(range: Range, policy: u8, quantum: u8) -> bool
+    ensures { λ r. ⌜ r ≡ scheduled (range .low) (range .high) policy quantum ⌝ }
+{
+    if policy == Setting::FIFO {
+        return quantum == 0;
+    }
+    if policy != Setting::ROUND_ROBIN {
+        return false;
+    }
+    if quantum < range.low {
+        return false;
+    }
+    quantum <= range.high
+}
+
 // Whether a setting has one of the three shapes, n being the number of jobs.
 fn has_shape(n: usize, range: Range, setting: Setting) -> bool
     ensures { λ r. ⌜ r ≡ shaped n (range .low) (range .high) setting ⌝ }
@@ -35,16 +51,7 @@ fn has_shape(n: usize, range: Range, setting: Setting) -> bool
     if !is_level(n, setting.level) {
         return false;
     }
-    if setting.policy == Setting::FIFO {
-        return setting.quantum == 0;
-    }
-    if setting.policy != Setting::ROUND_ROBIN {
-        return false;
-    }
-    if setting.quantum < range.low {
-        return false;
-    }
-    setting.quantum <= range.high
+    is_scheduled(range, setting.policy, setting.quantum)
 }
 
 // The number of the first n settings on a level.
@@ -64,19 +71,26 @@ fn on_level(settings: [Setting; Job::MOST], n: usize, level: u8) -> usize
     jobs
 }
 
-// Whether a policy 1 job is alone on its level, and a policy 2 job is not.
+// Whether a policy 1 job is alone, and a policy 2 job is not, `jobs` being the number of jobs where it stands. No entry.
+pub fn may_share(policy: u8, jobs: usize) -> bool
+    ensures { λ r. ⌜ r ≡ mayShare policy jobs ⌝ }
+{
+    if policy == Setting::FIFO {
+        return jobs == 1;
+    }
+    if policy == Setting::ROUND_ROBIN {
+        return 2 <= jobs;
+    }
+    true
+}
+
+// The same of a setting on its level.
 fn is_levelled(settings: [Setting; Job::MOST], n: usize, setting: Setting) -> bool
     requires { ⌜ n ≤ mostJobs ⌝ }
     ensures { λ r. ⌜ r ≡ levelled n settings setting ⌝ }
 {
     let jobs = on_level(settings, n, setting.level);
-    if setting.policy == Setting::FIFO {
-        return jobs == 1;
-    }
-    if setting.policy == Setting::ROUND_ROBIN {
-        return 2 <= jobs;
-    }
-    true
+    may_share(setting.policy, jobs)
 }
 
 // What a setting is held to: refusals 8, 9, 10 and 11.

@@ -10,7 +10,7 @@ use Rattle.records.specs.Refusals.{Answer, refused, given}
 use Rattle.records.specs.Jobs.{jobOf, timesOk, jobList}
 use Rattle.records.proofs.Cases.{row}
 use Rattle.configuration.specs.Settings.{settingBytes}
-use Rattle.configuration.specs.Configuration.{placedLevel, shaped, levelled}
+use Rattle.configuration.specs.Configuration.{placedLevel, scheduled, shaped, mayShare}
 use Rattle.response.specs.Demand.{ceilDiv, work, interference, otherQuanta, layerShare, demand, least, finish, larger, run, largestResponse, bound}
 use Rattle.marker.specs.Bounds.{quantaOf, layerOf, aboveOf, boundIn}
 use Rattle.configuration.specs.Blocks.{settingsOf}
@@ -85,7 +85,7 @@ cases =
     ∷ []
 
 pub worked : map answered cases ≡ map (λ c. c .answers) cases
-unfolding answered filled refuses k2 k7 shared apart third cases row every sum sumOver count listOf wordBytes flat chunks jobOf timesOk settingBytes placedLevel shaped levelled ceilDiv work interference otherQuanta layerShare demand least finish larger run largestResponse bound boundIn boundsOutcome markOutcome
+unfolding answered filled refuses k2 k7 shared apart third cases row every sum sumOver count listOf wordBytes flat chunks jobOf timesOk settingBytes placedLevel scheduled shaped mayShare ceilDiv work interference otherQuanta layerShare demand least finish larger run largestResponse bound boundIn boundsOutcome markOutcome
 worked = refl
 
 -- "In K2, 4 and 4 gives the first job 14."

@@ -1,17 +1,16 @@
-use Prim.Native.Nat.{ℕ, _*_}
-use mathlib.Core.Path.{_≡_, sym, ap, ap₂, _∙_}
-use mathlib.Core.List.{List, []}
-use borrow.Author.Tests.{eq-eqb, ne-eqb}
+use Prim.Native.Nat.{ℕ}
+use mathlib.Core.Path.{_≡_, ap, _∙_}
+use mathlib.Core.List.{List}
 use lib.ListN.{length, take}
 use Rattle.records.specs.Limits.{mostJobs}
-use Rattle.records.specs.Refusals.{Tests, given, verdict, answer, outcome}
+use Rattle.records.specs.Refusals.{Tests, verdict, answer}
 use Rattle.records.specs.declared.job.Job.{Job}
-use Rattle.records.proofs.Outcomes.{turned-by, passed-by}
-use Rattle.records.proofs.FixedWidth.{cut-take, cut-length, take-table, length-chunks}
+use Rattle.records.proofs.FixedWidth.{cut-take, cut-length}
+use Rattle.records.proofs.BlockReading.{block-size, block-turned, block-read}
 use Rattle.configuration.specs.declared.setting.Setting.{Setting}
-use Rattle.configuration.specs.Settings.{settingSize, settingOf, blankSetting, settingsIn, settingTable}
+use Rattle.configuration.specs.Settings.{settingSize, settingOf, blankSetting}
 use Rattle.configuration.specs.Configuration.{settingTests}
-use Rattle.configuration.specs.Blocks.{settingsFor, readSettings}
+use Rattle.configuration.specs.Blocks.{readSettings}
 use borrow.Author.Needs.{needs}
 use Rattle.configuration.proofs.block.read_settings.Statement.{statement}
 use Rattle.configuration.proofs.block.read_settings.Tie as tie
@@ -33,6 +32,9 @@ module _ (c : tie.After-at-most) where
   abbrev block : List ℕ
   block = c .before .before .args .configuration .now
 
+  abbrev tests : List Setting → Tests
+  tests records = settingTests jobs low high records
+
   size : length jobs ≡ c .at-most .result
   size =
       let a = c .before .before .args in
@@ -48,7 +50,7 @@ returns : tie.Need-returns
 unfolding readSettings
 returns c =
     let p = c .before .before in
-    c .configuration-refused .ensures ∙ sym (simp (ne-eqb (length (block p)) (settingSize * length (jobs p)) (λ e. c .before .if1 .taken (e ∙ ap (λ (m : ℕ). settingSize * m) (size p)))))
+    c .configuration-refused .ensures ∙ block-size settingSize settingOf blankSetting mostJobs (length (jobs p)) (block p) (tests p) _ (size p) (c .before .if1 .taken)
 
 decode-requires : tie.Need-decode-requires
 decode-requires c κs = search needs
@@ -56,29 +58,13 @@ decode-requires c κs = search needs
 judge-settings-requires : tie.Need-judge-settings-requires
 judge-settings-requires c κs = search needs
 
--- Past refusal 7: what was judged are the settings of the block.
-module _ (c : tie.After-judge-settings) where
-  abbrev p : tie.After-at-most
-  p = c .before .before .before
-
-  abbrev tests : Tests
-  tests = settingTests (jobs p) (low p) (high p) (settingsFor (jobs p) (block p))
-
-  on : readSettings (jobs p) (low p) (high p) (block p) ≡ outcome tests (length (jobs p)) (settingTable (settingsFor (jobs p) (block p))) (settingTable [])
-  unfolding readSettings
-  on = simp (eq-eqb (length (block p)) (settingSize * length (jobs p)) (c .before .before .if1 .left ∙ ap (λ (m : ℕ). settingSize * m) (sym (size p))))
-
-  judged : verdict (c .judge-settings .result) ≡ answer tests tt
-  judged =
-      let a = p .before .before .args in
-      let m = p .at-most .result in
-      let read : take m (c .before .decode .result) ≡ settingsFor (jobs p) (block p) =
-      ap (take m) (c .before .decode .ensures)
-      ∙ take-table mostJobs blankSetting m (settingsIn m (block p)) (length-chunks settingSize settingOf m (block p))
-      ∙ ap (λ (k : ℕ). settingsIn k (block p)) (sym (size p))
-      in
-      c .judge-settings .ensures
-      ∙ ap₂ (λ (l : List Job) (s : List Setting). answer (settingTests l (low p) (high p) s) tt) (cut-take (a .table) mostJobs (a .n) m (search needs) (p .at-most .ensures)) read
+-- What was judged, for the list of jobs.
+judged : (c : tie.After-judge-settings) → let p = c .before .before .before in verdict (c .judge-settings .result) ≡ answer (tests p (take (p .at-most .result) (c .before .decode .result))) tt
+judged c =
+    let p = c .before .before .before in
+    let a = p .before .before .args in
+    c .judge-settings .ensures
+    ∙ ap (λ (l : List Job). answer (settingTests l (low p) (high p) (take (p .at-most .result) (c .before .decode .result))) tt) (cut-take (a .table) mostJobs (a .n) (p .at-most .result) (search needs) (p .at-most .ensures))
 
 enum-known-judged : tie.Need-enum-known-judged
 enum-known-judged c = search needs
@@ -87,22 +73,22 @@ configuration-refused-requires-2 : tie.Need-configuration-refused-requires-2
 configuration-refused-requires-2 c κs = search needs
 
 returns-2 : tie.Need-returns-2
+unfolding readSettings
 returns-2 c =
     let j = c .before .before .before .before in
-    let s = settingsFor (jobs (p j)) (block (p j)) in
+    let p = j .before .before .before in
     c .configuration-refused2 .ensures
-    ∙ sym (on j ∙ turned-by (tests j) [] (length (jobs (p j))) (settingTable s) (settingTable []) _ (judged j) _ (c .before .before .judged .given .1))
+    ∙ block-turned settingSize settingOf blankSetting mostJobs (length (jobs p)) (block p) (tests p) _ (size p) (j .before .before .if1 .left) _ (j .before .decode .ensures) _ (judged j) _ (c .before .before .judged .given .1)
 
 enum-told : tie.Need-enum-told
 enum-told c = search needs
 
 returns-3 : tie.Need-returns-3
+unfolding readSettings
 returns-3 c =
     let j = c .before .before in
-    let s = settingsFor (jobs (p j)) (block (p j)) in
-    ap (λ (t : List Setting). (given (p j .at-most .result), t)) (j .before .decode .ensures)
-    ∙ ap (λ (k : ℕ). (given k, settingTable (settingsIn k (block (p j))))) (sym (size (p j)))
-    ∙ sym (on j ∙ passed-by (tests j) [] (length (jobs (p j))) (settingTable s) (settingTable []) _ (judged j) (c .enum-told .given .1))
+    let p = j .before .before .before in
+    block-read settingSize settingOf blankSetting mostJobs (length (jobs p)) (block p) (tests p) _ (size p) (j .before .before .if1 .left) _ (j .before .decode .ensures) _ (judged j) (c .enum-told .given .1)
 
 pub read-settings-spec : {M : Type 1} → statement M
 read-settings-spec =
