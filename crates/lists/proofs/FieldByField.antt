@@ -16,7 +16,7 @@ use Rattle.lists.specs.declared.words.Mark.the-variants.{Blank, Word}
 use Rattle.lists.specs.declared.words.WordAnswer.{WordAnswer}
 use Rattle.lists.specs.declared.words.WordAnswer.the-variants.{Number, Wrong}
 use Rattle.lists.specs.declared.fields.Form.{Form}
-use Rattle.lists.specs.declared.fields.Form.the-variants.{Job, Setting, Quanta}
+use Rattle.lists.specs.declared.fields.Form.the-variants.{Job, Setting, Kernel, Quanta}
 use Rattle.lists.specs.Words.{isMark, before, words}
 use Rattle.lists.specs.Rows.{limitsOf, neededOf, countFault, wordOf, Numbers, numbers, wrong, fieldsFrom, rowOf}
 use Rattle.lists.proofs.Parsing.{no-word, next-word}
@@ -24,6 +24,7 @@ use Rattle.lists.proofs.Parsing.{no-word, next-word}
 pub few-fields : (form : Form) → length (limitsOf form) ≤ 5
 few-fields Job = lit≤ tt
 few-fields Setting = lit≤ tt
+few-fields Kernel = lit≤ tt
 few-fields Quanta = lit≤ tt
 
 -- A row sees a table of numbers as it sees the numbers that the table begins with.

@@ -1,17 +1,15 @@
 -- Laws of the lines of a text, as a reader takes them one after the other. Assumes nothing.
-use Prim.Native.Nat.{ℕ, suc, _+_, _-_, min, _≤_, _<_}
+use Prim.Native.Nat.{ℕ, suc, _+_, _-_, _≤_, _<_}
 use mathlib.Core.Path.{_≡_, refl, sym, ap, ap₂, _∙_}
 use mathlib.Core.Bool.{Bool, true, false, cond}
 use mathlib.Core.List.{List, [], _∷_, _++_, map, append-assoc, append-nil}
 use mathlib.Core.Option.{none, some}
 use native.Mathlib.Numerals.{add-one}
 use native.Mathlib.Omega.{arith}
-use lib.ListN.{length, getD, take, drop, set, length-take, length-map, drop-of-length-le}
-use lib.Seq.{drop-drop, length-take-le, take-suc, take-suc-set}
+use lib.ListN.{length, take, drop, set, length-take, length-map, drop-of-length-le}
+use lib.Seq.{drop-drop, length-take-le, take-suc-set}
 use borrow.Author.Tests.{lt-ltb, le-ltb, ne-eqb}
 use Rattle.records.specs.Limits.{mostJobs}
-use Rattle.records.specs.Records.{table}
-use Rattle.records.proofs.FixedWidth.{fill-next, cut-take}
 use Rattle.same_bytes.specs.Same.{sameBytes}
 use Rattle.lists.specs.declared.fault.Fault.the-variants.{TooMany, SecondRange}
 use Rattle.lists.specs.declared.words.Mark.the-variants.{Blank, Word, LineEnd}
@@ -122,24 +120,3 @@ short-mark text h =
     let size = length-take 3 text in
     let other : (length (take 3 text) ≡ 3) → ⊥ = λ e. omega arith in
     rw (ne-eqb (length (take 3 text)) 3 other)
-
--- ---- the table that rows stand for
-
-map-append : {A B : Type 0} (f : A → B) (xs ys : List A) → map f (xs ++ ys) ≡ map f xs ++ map f ys
-map-append f [] ys = refl
-map-append {A} {B} f (x ∷ xs) ys = ap (λ (l : List B). f x ∷ l) (map-append f xs ys)
-
-module _ {A : Type 0} (from : Row → A) (blank : A) (rows : List Row) (size : length rows ≡ mostJobs) where
-  -- One row on.
-  pub table-next : (i : ℕ) (t : List A) (a : A) (z : Row) → i < mostJobs → t ≡ table mostJobs blank (map from (take i rows)) → a ≡ from (getD rows i z)
-      → set t i a ≡ table mostJobs blank (map from (take (i + 1) rows))
-  table-next i t a z h e f =
-      let inside : i < length rows = omega arith in
-      let long : length (map from (take i rows)) ≡ i = length-map (take i rows) from ∙ length-take-le i rows (omega arith) in
-      ap₂ (λ (l : List A) (x : A). set l i x) e f
-      ∙ fill-next mostJobs i (map from (take i rows)) blank (from (getD rows i z)) long h
-      ∙ ap (table mostJobs blank) (sym (ap (λ (k : ℕ). map from (take k rows)) (add-one i) ∙ ap (map from) (take-suc rows i z inside) ∙ map-append from (take i rows) (getD rows i z ∷ [])))
-
-  -- All of them, with a count that is cut to the size of the table.
-  pub table-all : (n count i : ℕ) → count ≡ min n mostJobs → i ≡ count → table mostJobs blank (map from (take i rows)) ≡ table mostJobs blank (map from (take n rows))
-  table-all n count i cut e = ap (λ (l : List Row). table mostJobs blank (map from l)) (ap (λ (k : ℕ). take k rows) e ∙ cut-take rows mostJobs n count size cut)

@@ -5,12 +5,12 @@ use mathlib.Core.List.{List, [], _∷_, map}
 use mathlib.Core.Option.{Option, none, some}
 use Rattle.sets.specs.Places.{every}
 use Rattle.same_bytes.specs.Same.{sameBytes}
-use Rattle.lists.specs.declared.fault.Fault.the-variants.{NotANumber, TooLarge, NotAPolicy, LoneReturn, JobWords, SettingWords, RangeWords, TooMany, SecondRange}
+use Rattle.lists.specs.declared.fault.Fault.the-variants.{NotANumber, TooLarge, NotAPolicy, NotAPolicyName, LoneReturn, JobWords, SettingWords, KernelWords, RangeWords, TooMany, SecondRange}
 use Rattle.lists.specs.declared.fields.Form.{Form}
-use Rattle.lists.specs.declared.fields.Form.the-variants.{Job as JobForm, Setting as SettingForm}
+use Rattle.lists.specs.declared.fields.Form.the-variants.{Job as JobForm, Setting as SettingForm, Kernel as KernelForm}
 use Rattle.lists.specs.declared.fields.Row.{Row}
 use Rattle.lists.specs.Words.{numberOf}
-use Rattle.lists.specs.Rows.{policyOr, wordOf, plainLine, readLine, Rows, Reading, given, faulty, readText}
+use Rattle.lists.specs.Rows.{policyOr, policyNamed, wordOf, plainLine, readLine, Rows, Reading, given, faulty, readText}
 
 -- A case: what is read, a text, and what reading it is to come to.
 pub data Case : Type 0 where
@@ -122,8 +122,23 @@ cases =
     ∷ case SettingForm (49 ∷ 32 ∷ 49 ∷ 32 ∷ 102 ∷ 105 ∷ 102 ∷ 111 ∷ 10 ∷ []) (faulty 1 SettingWords)
     -- `1 1 fifo 256\n`
     ∷ case SettingForm (49 ∷ 32 ∷ 49 ∷ 32 ∷ 102 ∷ 105 ∷ 102 ∷ 111 ∷ 32 ∷ 50 ∷ 53 ∷ 54 ∷ 10 ∷ []) (faulty 1 (TooLarge 4 64))
+    -- kernel records; a configuration's row, by name and by number, a policy that is no name of one or no kernel record's; a key's row, and a priority past a byte
+    -- `1 rr 98 3\n2 fifo 99 0 # alone\n`
+    ∷ case KernelForm (49 ∷ 32 ∷ 114 ∷ 114 ∷ 32 ∷ 57 ∷ 56 ∷ 32 ∷ 51 ∷ 10 ∷ 50 ∷ 32 ∷ 102 ∷ 105 ∷ 102 ∷ 111 ∷ 32 ∷ 57 ∷ 57 ∷ 32 ∷ 48 ∷ 32 ∷ 35 ∷ 32 ∷ 97 ∷ 108 ∷ 111 ∷ 110 ∷ 101 ∷ 10 ∷ []) (read (row 1 2 98 3 0 ∷ row 2 1 99 0 0 ∷ []) (1 ∷ 2 ∷ []) none)
+    -- `1 2 rr 3\n`
+    ∷ case KernelForm (49 ∷ 32 ∷ 50 ∷ 32 ∷ 114 ∷ 114 ∷ 32 ∷ 51 ∷ 10 ∷ []) (faulty 1 NotAPolicyName)
+    -- `1 1 1 0\n`
+    ∷ case KernelForm (49 ∷ 32 ∷ 49 ∷ 32 ∷ 49 ∷ 32 ∷ 48 ∷ 10 ∷ []) (faulty 1 NotAPolicyName)
+    -- `1 RR 98 3\n`
+    ∷ case KernelForm (49 ∷ 32 ∷ 82 ∷ 82 ∷ 32 ∷ 57 ∷ 56 ∷ 32 ∷ 51 ∷ 10 ∷ []) (faulty 1 NotAPolicyName)
+    -- `1 none 0 0\n`
+    ∷ case KernelForm (49 ∷ 32 ∷ 110 ∷ 111 ∷ 110 ∷ 101 ∷ 32 ∷ 48 ∷ 32 ∷ 48 ∷ 10 ∷ []) (faulty 1 NotAPolicyName)
+    -- `1 fifo 1 0 8\n`
+    ∷ case KernelForm (49 ∷ 32 ∷ 102 ∷ 105 ∷ 102 ∷ 111 ∷ 32 ∷ 49 ∷ 32 ∷ 48 ∷ 32 ∷ 56 ∷ 10 ∷ []) (faulty 1 KernelWords)
+    -- `1 rr 256 3\n`
+    ∷ case KernelForm (49 ∷ 32 ∷ 114 ∷ 114 ∷ 32 ∷ 50 ∷ 53 ∷ 54 ∷ 32 ∷ 51 ∷ 10 ∷ []) (faulty 1 (TooLarge 3 255))
     ∷ []
 
 pub read-cases : map answered cases ≡ map expected cases
-unfolding row read answered expected cases every sameBytes numberOf policyOr wordOf plainLine readLine readText
+unfolding row read answered expected cases every sameBytes numberOf policyOr policyNamed wordOf plainLine readLine readText
 read-cases = refl

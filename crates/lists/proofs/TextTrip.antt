@@ -1,4 +1,4 @@
--- What is written of jobs and of settings as text is read back to them. Assumes nothing.
+-- What is written of jobs, of settings and of kernel records as text is read back to them. Assumes nothing.
 use Prim.Native.Nat.{ℕ, zero, suc, _+_, _-_, _*_, _/_, _%_, _≤_, _<_}
 use mathlib.Core.Path.{_≡_, refl, sym, ap, ap₂, subst, _∙_}
 use mathlib.Core.Bool.{Bool, true, false, cond, _&&_, false≢true}
@@ -14,6 +14,8 @@ use Rattle.records.specs.Limits.{mostJobs}
 use Rattle.records.specs.Records.{flat}
 use Rattle.records.specs.declared.job.Job.{Job}
 use Rattle.configuration.specs.declared.setting.Setting.{Setting}
+use Rattle.configuration.specs.Settings.{fifo, roundRobin}
+use Rattle.kernel.specs.declared.record.KernelRecord.{KernelRecord}
 use Rattle.same_bytes.specs.Same.{sameBytes}
 use Rattle.same_bytes.proofs.Equality.{same-exactly}
 use Rattle.lists.specs.Decimals.{space, lineFeed, digit, decimal}
@@ -21,14 +23,14 @@ use Rattle.lists.specs.declared.words.Mark.the-variants.{LineEnd, Commen
 use Rattle.lists.specs.declared.words.WordAnswer.{WordAnswer}
 use Rattle.lists.specs.declared.words.WordAnswer.the-variants.{Number, Wrong}
 use Rattle.lists.specs.declared.fields.Form.{Form}
-use Rattle.lists.specs.declared.fields.Form.the-variants.{Job as JobForm, Setting as SettingForm, Quanta as QuantaForm}
+use Rattle.lists.specs.declared.fields.Form.the-variants.{Job as JobForm, Setting as SettingForm, Kernel as KernelForm, Quanta as QuantaForm}
 use Rattle.lists.specs.declared.fields.Row.{Row}
 use Rattle.lists.specs.declared.rows.LineAnswer.{LineAnswer}
 use Rattle.lists.specs.declared.fault.Fault.the-variants.{LoneReturn}
 use Rattle.lists.specs.declared.rows.LineAnswer.the-variants.{Skipped, Found, RangeOf, Wrong as LineWrong}
 use Rattle.lists.specs.Words.{tab, carriageReturn, numberSign, isBlank, isMark, isDigit, partsFrom, parts, before, nonEmpty, lines, words, allDigits, valueFrom, numberOf}
-use Rattle.lists.specs.Rows.{Numbers, wrong, fieldsFrom, readFields, rowAnswer, rowLine, rangeLine, noneName, fifoName, roundRobinName, policyOr, wordOf, quantaWord, placedWord, wordsLine, plainLine, readLine, Rows, Reading, given, withLine, readLines, markSize, noRows, readText}
-use Rattle.lists.specs.Lists.{jobFrom, settingFrom, lineText, delayWords, jobText, policyWord, settingText, listText, configurationText, JobFits, SettingFits, RangeFits, AllFit}
+use Rattle.lists.specs.Rows.{Numbers, wrong, fieldsFrom, readFields, rowAnswer, rowLine, rangeLine, noneName, fifoName, roundRobinName, policyOr, policyNamed, wordOf, quantaWord, placedWord, wordsLine, plainLine, readLine, Rows, Reading, given, withLine, readLines, markSize, noRows, readText}
+use Rattle.lists.specs.Lists.{jobFrom, settingFrom, kernelFrom, lineText, delayWords, jobText, policyWord, settingText, kernelText, listText, configurationText, kernelsText, JobFits, SettingFits, KernelFits, RangeFits, AllFit}
 use Rattle.lists.proofs.Decimal.{decimal-one, decimal-more}
 use Rattle.lists.proofs.Parsing.{digit-range}
 
@@ -349,23 +351,23 @@ list-back (some range) jobs rf fit few =
 abbrev settingRow : Setting → Row
 settingRow setting = record { first = setting .id; second = setting .level; third = setting .policy; fourth = setting .quantum; fifth = 0 }
 
-policy-read : (policy : ℕ) → policy ≤ 255 → policyOr (policyWord policy) (numberOf 3 2 255 (policyWord policy)) ≡ Number policy
-unfolding policyOr
-policy-read zero fit = rw (same-exactly noneName noneName .1 refl)
-policy-read (suc zero) fit = rw (differ, same-exactly fifoName fifoName .1 refl)
+robin-not-fifo : sameBytes roundRobinName fifoName ≡ false
+robin-not-fifo = other roundRobinName fifoName (λ e. false≢true (ap (λ (l : List ℕ). eqb (getD l 0 0) 102) e))
+
+policy-read : (place policy : ℕ) → policy ≤ 255 → policyOr (policyWord policy) (numberOf place 2 255 (policyWord policy)) ≡ Number policy
+unfolding policyOr policyNamed
+policy-read place zero fit = rw (same-exactly noneName noneName .1 refl)
+policy-read place (suc zero) fit = rw (differ, same-exactly fifoName fifoName .1 refl)
   where
     differ : sameBytes fifoName noneName ≡ false
     differ = other fifoName noneName (λ e. false≢true (ap (λ (l : List ℕ). eqb (getD l 0 0) 110) e))
-policy-read (suc (suc zero)) fit = rw (first, second, same-exactly roundRobinName roundRobinName .1 refl)
+policy-read place (suc (suc zero)) fit = rw (differ, robin-not-fifo, same-exactly roundRobinName roundRobinName .1 refl)
   where
-    first : sameBytes roundRobinName noneName ≡ false
-    first = other roundRobinName noneName (λ e. false≢true (ap (λ (l : List ℕ). eqb (getD l 0 0) 110) e))
-
-    second : sameBytes roundRobinName fifoName ≡ false
-    second = other roundRobinName fifoName (λ e. false≢true (ap (λ (l : List ℕ). eqb (getD l 0 0) 102) e))
-policy-read (suc (suc (suc policy))) fit =
+    differ : sameBytes roundRobinName noneName ≡ false
+    differ = other roundRobinName noneName (λ e. false≢true (ap (λ (l : List ℕ). eqb (getD l 0 0) 110) e))
+policy-read place (suc (suc (suc policy))) fit =
     let n = suc (suc (suc policy)) in
-    rw (not-word n noneName refl, not-word n fifoName refl, not-word n roundRobinName refl, number-back 2 3 255 n fit)
+    rw (not-word n noneName refl, not-word n fifoName refl, not-word n roundRobinName refl, number-back 2 place 255 n fit)
 
 setting-read : (setting : Setting) → SettingFits setting
     → wordsLine SettingForm (decimal (setting .id) ∷ decimal (setting .level) ∷ policyWord (setting .policy) ∷ decimal (setting .quantum) ∷ []) ≡ Found (settingRow setting)
@@ -375,7 +377,7 @@ setting-read setting fit =
     ∙ ap (λ (x : Numbers). rowLine (rowAnswer x))
     (field-step SettingForm [] 255 (255 ∷ 255 ∷ 255 ∷ 65535 ∷ []) (decimal (setting .id)) (decimal (setting .level) ∷ policyWord (setting .policy) ∷ decimal (setting .quantum) ∷ []) (setting .id) (number-back 255 1 255 (setting .id) (fit .0))
     ∙ field-step SettingForm (setting .id ∷ []) 255 (255 ∷ 255 ∷ 65535 ∷ []) (decimal (setting .level)) (policyWord (setting .policy) ∷ decimal (setting .quantum) ∷ []) (setting .level) (number-back 8 2 255 (setting .level) (fit .1))
-    ∙ field-step SettingForm (setting .id ∷ setting .level ∷ []) 255 (255 ∷ 65535 ∷ []) (policyWord (setting .policy)) (decimal (setting .quantum) ∷ []) (setting .policy) (policy-read (setting .policy) (fit .2))
+    ∙ field-step SettingForm (setting .id ∷ setting .level ∷ []) 255 (255 ∷ 65535 ∷ []) (policyWord (setting .policy)) (decimal (setting .quantum) ∷ []) (setting .policy) (policy-read 3 (setting .policy) (fit .2))
     ∙ field-step SettingForm (setting .id ∷ setting .level ∷ setting .policy ∷ []) 255 (65535 ∷ []) (decimal (setting .quantum)) [] (setting .quantum) (number-back 64 4 255 (setting .quantum) (fit .3)))
 
 abbrev settings-written : Written SettingForm Setting
@@ -408,3 +410,57 @@ configuration-back settings fit few =
     starts : (xs : List Setting) → getD (flat settingText xs) 0 0 < 128
     starts [] = lit< tt
     starts (x ∷ xs) = line-starts (decimal (x .id)) (decimal (x .level) ∷ policyWord (x .policy) ∷ decimal (x .quantum) ∷ []) (flat settingText xs) (decimal-plain (x .id))
+
+-- ---- kernel records
+
+abbrev kernelRow : KernelRecord → Row
+kernelRow kernel = record { first = kernel .id; second = kernel .policy; third = kernel .priority .0; fourth = kernel .quantum; fifth = 0 }
+
+name-read : (policy : ℕ) → fifo ≤ policy → policy ≤ roundRobin → policyNamed (policyWord policy) ≡ Number policy
+unfolding policyNamed
+name-read zero a b = absurd (omega arith)
+name-read (suc zero) a b = rw (same-exactly fifoName fifoName .1 refl)
+name-read (suc (suc zero)) a b = rw (robin-not-fifo, same-exactly roundRobinName roundRobinName .1 refl)
+name-read (suc (suc (suc policy))) a b = absurd (omega arith)
+
+kernel-read : (kernel : KernelRecord) → KernelFits kernel
+    → wordsLine KernelForm (decimal (kernel .id) ∷ policyWord (kernel .policy) ∷ decimal (kernel .priority .0) ∷ decimal (kernel .quantum) ∷ []) ≡ Found (kernelRow kernel)
+unfolding wordOf
+kernel-read kernel fit =
+    let priority = kernel .priority .0 in
+    ap (λ (x : Numbers). rowLine (rowAnswer x))
+    (field-step KernelForm [] 255 (255 ∷ 255 ∷ 255 ∷ []) (decimal (kernel .id)) (policyWord (kernel .policy) ∷ decimal priority ∷ decimal (kernel .quantum) ∷ []) (kernel .id) (number-back 255 1 255 (kernel .id) (fit .0))
+    ∙ field-step KernelForm (kernel .id ∷ []) 255 (255 ∷ 255 ∷ []) (policyWord (kernel .policy)) (decimal priority ∷ decimal (kernel .quantum) ∷ []) (kernel .policy) (name-read (kernel .policy) (fit .1 .0) (fit .1 .1))
+    ∙ field-step KernelForm (kernel .id ∷ kernel .policy ∷ []) 255 (255 ∷ []) (decimal priority) (decimal (kernel .quantum) ∷ []) priority (number-back 255 3 255 priority (fit .2))
+    ∙ field-step KernelForm (kernel .id ∷ kernel .policy ∷ priority ∷ []) 255 [] (decimal (kernel .quantum)) [] (kernel .quantum) (number-back 64 4 255 (kernel .quantum) (fit .3)))
+
+abbrev kernels-written : Written KernelForm KernelRecord
+kernels-written = record {
+  word = λ kernel. decimal (kernel .id);
+  rest = λ kernel. policyWord (kernel .policy) ∷ decimal (kernel .priority .0) ∷ decimal (kernel .quantum) ∷ [];
+  row = kernelRow;
+  Fits = KernelFits;
+  plain = λ kernel. (decimal-plain (kernel .id), (policy-plain (kernel .policy), (decimal-plain (kernel .priority .0), (decimal-plain (kernel .quantum), tt))));
+  reads = kernel-read;
+}
+
+kernels-back : (kernels : List KernelRecord) → AllFit KernelFits kernels → map kernelFrom (map kernelRow kernels) ≡ kernels
+kernels-back [] fit = refl
+kernels-back (kernel ∷ kernels) fit =
+    let id : kernel .id % 256 ≡ kernel .id = omega (arith, fit .0 .0) in
+    let policy : kernel .policy % 256 ≡ kernel .policy = omega (arith, fit .0 .1 .1) in
+    let priority : kernel .priority .0 % 256 ≡ kernel .priority .0 = omega (arith, fit .0 .2) in
+    let quantum : kernel .quantum % 256 ≡ kernel .quantum = omega (arith, fit .0 .3) in
+    ap₂ (λ (k : KernelRecord) (l : List KernelRecord). k ∷ l) (rw (id, policy, priority, quantum)) (kernels-back kernels (fit .1))
+
+-- The same of at most 8 kernel records with policies that accepted ones have.
+pub kernels-text-back : (kernels : List KernelRecord) → AllFit KernelFits kernels → length kernels ≤ mostJobs
+    → (r : Rows) × (readText KernelForm (kernelsText kernels) ≡ given r) × (map kernelFrom (r .rows) ≡ kernels)
+unfolding readText kernelsText flat
+kernels-text-back kernels fit few =
+    let w = rows-read KernelForm kernels-written 1 noRows kernels fit (omega arith) in
+    (w .0, ap (λ (k : ℕ). readLines KernelForm 1 (given noRows) (lines (drop k (flat kernelText kernels)))) (no-mark (flat kernelText kernels) (starts kernels)) ∙ w .1, ap (map kernelFrom) (w .2) ∙ kernels-back kernels fit)
+  where
+    starts : (xs : List KernelRecord) → getD (flat kernelText xs) 0 0 < 128
+    starts [] = lit< tt
+    starts (x ∷ xs) = line-starts (decimal (x .id)) (policyWord (x .policy) ∷ decimal (x .priority .0) ∷ decimal (x .quantum) ∷ []) (flat kernelText xs) (decimal-plain (x .id))

@@ -1,7 +1,7 @@
 -- Texts of rows: one row of numbers per line, blanks between, `#` starts a comment. A job list has rows `id cost period deadline delay`, of
 -- which a delay of 0 may be left out, and may say its range in one line `quanta low high`; a configuration has rows `id level policy
 -- quantum`, with a policy's name or number, and a number after them, as a key has its bound there, is let by, and so is
--- the last line of a key. Assumes nothing.
+-- the last line of a key; kernel records have rows `id policy priority quantum`, with the name of a policy. Assumes nothing.
 use Prim.Native.Nat.{ℕ, _+_}
 use mathlib.Core.Bool.{Bool, false, cond}
 use mathlib.Core.List.{List, [], _∷_, _++_}
@@ -12,12 +12,12 @@ use Rattle.records.specs.Limits.{mostJobs, longestPeriod, longestDeadline, long
 use Rattle.configuration.specs.Settings.{roundRobin}
 use Rattle.same_bytes.specs.Same.{sameBytes}
 use Rattle.lists.specs.declared.fault.Fault.{Fault}
-use Rattle.lists.specs.declared.fault.Fault.the-variants.{NotAPolicy, LoneReturn, JobWords, SettingWords, RangeWords, TooMany, SecondRange}
+use Rattle.lists.specs.declared.fault.Fault.the-variants.{NotAPolicy, NotAPolicyName, LoneReturn, JobWords, SettingWords, KernelWords, RangeWords, TooMany, SecondRange}
 use Rattle.lists.specs.declared.words.Mark.the-variants.{Comment, Return}
 use Rattle.lists.specs.declared.words.WordAnswer.{WordAnswer}
 use Rattle.lists.specs.declared.words.WordAnswer.the-variants.{Number, Wrong}
 use Rattle.lists.specs.declared.fields.Form.{Form}
-use Rattle.lists.specs.declared.fields.Form.the-variants.{Job, Setting, Quanta}
+use Rattle.lists.specs.declared.fields.Form.the-variants.{Job, Setting, Kernel, Quanta}
 use Rattle.lists.specs.declared.fields.Row.{Row}
 use Rattle.lists.specs.declared.fields.FieldsAnswer.{FieldsAnswer}
 use Rattle.lists.specs.declared.fields.FieldsAnswer.the-variants.{Read, Wrong as FieldsWrong}
@@ -33,37 +33,51 @@ use Rattle.lists.specs.Words.{isMark, before, lines, words, numberOf}
 abbrev pub limitsOf : Form → List ℕ
 limitsOf Job = 255 ∷ 65535 ∷ 65535 ∷ 65535 ∷ 255 ∷ []
 limitsOf Setting = 255 ∷ 255 ∷ 255 ∷ 255 ∷ 65535 ∷ []
+limitsOf Kernel = 255 ∷ 255 ∷ 255 ∷ 255 ∷ []
 limitsOf Quanta = 255 ∷ 255 ∷ []
 
 -- How many fields there have to be.
 abbrev pub neededOf : Form → ℕ
 neededOf Job = 4
 neededOf Setting = 4
+neededOf Kernel = 4
 neededOf Quanta = 2
 
 -- What is wrong where there are fewer, or more than there are fields.
 abbrev pub countFault : Form → Fault
 countFault Job = JobWords
 countFault Setting = SettingWords
+countFault Kernel = KernelWords
 countFault Quanta = RangeWords
 
 -- The place of field i among the words of its line, counted from 1: before a range stands its word.
 abbrev pub placeOf : Form → ℕ → ℕ
 placeOf Job i = i + 1
 placeOf Setting i = i + 1
+placeOf Kernel i = i + 1
 placeOf Quanta i = i + 2
 
--- The limits that are told of larger numbers: those of an accepted job, setting or range, where a record could hold more.
+-- The limits that are told of larger numbers: those of an accepted job, setting, kernel record or range, where a record could hold more.
 abbrev pub toldOf : Form → List ℕ
 toldOf Job = 255 ∷ longestPeriod ∷ longestPeriod ∷ longestDeadline ∷ 255 ∷ []
 toldOf Setting = 255 ∷ mostJobs ∷ roundRobin ∷ longestQuantum ∷ 65535 ∷ []
+toldOf Kernel = 255 ∷ 0 ∷ 255 ∷ longestQuantum ∷ 0 ∷ []
 toldOf Quanta = longestQuantum ∷ longestQuantum ∷ 0 ∷ 0 ∷ 0 ∷ []
 
--- A policy may have its name.
+-- A setting's policy may have its name.
 abbrev pub isNamed : Form → ℕ → Bool
 isNamed Job i = false
 isNamed Setting i = eqb i 2
+isNamed Kernel i = false
 isNamed Quanta i = false
+
+-- A kernel record's policy has its name alone. A line of a configuration has a level there, which is a number, so that neither is read as
+-- the other.
+abbrev pub isNameOnly : Form → ℕ → Bool
+isNameOnly Job i = false
+isNameOnly Setting i = false
+isNameOnly Kernel i = eqb i 1
+isNameOnly Quanta i = false
 
 -- `none`, `fifo` and `rr`.
 abbrev pub noneName : List ℕ
@@ -75,20 +89,27 @@ fifoName = 102 ∷ 105 ∷ 102 ∷ 111 ∷ []
 abbrev pub roundRobinName : List ℕ
 roundRobinName = 114 ∷ 114 ∷ []
 
--- A policy's number by its name, or the number that the word is.
+-- The number of a placed job's policy, by its name; a kernel record's policy is one of these.
+unfoldable pub policyNamed : List ℕ → WordAnswer
+policyNamed word = cond (sameBytes word fifoName) (Number 1) (cond (sameBytes word roundRobinName) (Number 2) (Wrong NotAPolicyName))
+
+-- A setting's policy: its number by its name, or the number that the word is.
 abbrev pub numberOnly : WordAnswer → WordAnswer
 numberOnly (Number n) = Number n
 numberOnly (Wrong fault) = Wrong NotAPolicy
 
+abbrev pub namedOr : WordAnswer → WordAnswer → WordAnswer
+namedOr (Number n) other = Number n
+namedOr (Wrong fault) other = numberOnly other
+
 unfoldable pub policyOr : List ℕ → WordAnswer → WordAnswer
-policyOr word other =
-    cond (sameBytes word noneName) (Number 0) (cond (sameBytes word fifoName) (Number 1) (cond (sameBytes word roundRobinName) (Number 2) (numberOnly other)))
+policyOr word other = cond (sameBytes word noneName) (Number 0) (namedOr (policyNamed word) other)
 
 -- The word of field i.
 unfoldable pub wordOf : Form → ℕ → ℕ → List ℕ → WordAnswer
 wordOf form i limit word =
     let number = numberOf (placeOf form i) (getD (toldOf form) i 0) limit word in
-    cond (isNamed form i) (policyOr word number) number
+    cond (isNameOnly form i) (policyNamed word) (cond (isNamed form i) (policyOr word number) number)
 
 -- The numbers of a line, or what is wrong with it.
 pub data Numbers : Type 0 where
@@ -126,6 +147,7 @@ quantaWord = 113 ∷ 117 ∷ 97 ∷ 110 ∷ 116 ∷ 97 ∷ []
 abbrev pub saysRange : Form → List ℕ → Bool
 saysRange Job word = sameBytes word quantaWord
 saysRange Setting word = false
+saysRange Kernel word = false
 saysRange Quanta word = false
 
 -- `placed`: the first word of a key's last line, which is passed over in a configuration, so that a key is one.
@@ -135,6 +157,7 @@ placedWord = 112 ∷ 108 ∷ 97 ∷ 99 ∷ 101 ∷ 100 ∷ []
 abbrev pub saysPlaced : Form → List ℕ → Bool
 saysPlaced Job word = false
 saysPlaced Setting word = sameBytes word placedWord
+saysPlaced Kernel word = false
 saysPlaced Quanta word = false
 
 -- What a line of fields holds.

@@ -11,7 +11,6 @@ use crate::rows;
 use crate::rows::RowsAnswer;
 use crate::rows::RowsRead;
 use crate::tables;
-use configuration::block;
 use records::job::Job;
 use records::refusal::Counted;
 
@@ -36,7 +35,12 @@ fn put_rows(form: Form, rows: [Row; Job::MOST], n: usize, output: &mut [u8]) -> 
 {
     match form {
         Form::Job => records::block::write_unjudged(tables::jobs_from(rows, n), n, &mut *output),
-        Form::Setting => block::write_settings(tables::settings_from(rows, n), n, &mut *output),
+        Form::Setting => {
+            configuration::block::write_settings(tables::settings_from(rows, n), n, &mut *output)
+        }
+        Form::Kernel => {
+            kernel::block::write_kernels(tables::kernels_from(rows, n), n, &mut *output)
+        }
         Form::Quanta => Counted::Count(0),
     }
 }

@@ -1,20 +1,21 @@
-// The fields of a line: as many numbers as its form has, each up to its limit; a policy may have its name.
+// The fields of a line: as many numbers as its form has, each up to its limit; a policy may have its name, and that of a kernel record has to.
 ghost use mathlib.Core.Path.{_≡_};
 ghost use Prim.Native.Nat.{_≤_, _<_};
 ghost use lib.ListN.{length, getD, drop};
 ghost use Rattle.records.specs.Records.{table};
 ghost use Rattle.lists.specs.Words.{words};
-ghost use Rattle.lists.specs.Rows.{limitsOf, neededOf, countFault, placeOf, toldOf, isNamed, numberOnly, policyOr, wordOf, readFields, rowOf, rowAnswer};
+ghost use Rattle.lists.specs.Rows.{limitsOf, neededOf, countFault, placeOf, toldOf, isNamed, isNameOnly, numberOnly, policyOr, policyNamed, wordOf, readFields, rowOf, rowAnswer};
 use crate::fault::Fault;
 use crate::words;
 use crate::words::Mark;
 use crate::words::WordAnswer;
 use same_bytes::same_bytes;
 
-// What a line holds: a job's numbers, a setting's, or those of a range.
+// What a line holds: the numbers of a job, of a setting, of a kernel record, or those of a range.
 pub enum Form {
     Job,
     Setting,
+    Kernel,
     Quanta,
 }
 
@@ -53,6 +54,7 @@ fn limits_of(form: Form) -> [u16; MOST]
     match form {
         Form::Job => [255, 65535, 65535, 65535, 255],
         Form::Setting => [255, 255, 255, 255, 65535],
+        Form::Kernel => [255, 255, 255, 255, 0],
         Form::Quanta => [255, 255, 0, 0, 0],
     }
 }
@@ -64,6 +66,7 @@ fn fields_of(form: Form) -> usize
     match form {
         Form::Job => 5,
         Form::Setting => 5,
+        Form::Kernel => 4,
         Form::Quanta => 2,
     }
 }
@@ -74,6 +77,7 @@ fn needed_of(form: Form) -> usize
     match form {
         Form::Job => 4,
         Form::Setting => 4,
+        Form::Kernel => 4,
         Form::Quanta => 2,
     }
 }
@@ -84,6 +88,7 @@ fn count_fault(form: Form) -> Fault
     match form {
         Form::Job => Fault::JobWords,
         Form::Setting => Fault::SettingWords,
+        Form::Kernel => Fault::KernelWords,
         Form::Quanta => Fault::RangeWords,
     }
 }
@@ -95,17 +100,19 @@ fn place_of(form: Form, i: usize) -> u8
     match form {
         Form::Job => i as u8 + 1,
         Form::Setting => i as u8 + 1,
+        Form::Kernel => i as u8 + 1,
         Form::Quanta => i as u8 + 2,
     }
 }
 
-// The limits that are told of larger numbers: those of an accepted job, setting or range.
+// The limits that are told of larger numbers: those of an accepted job, setting, kernel record or range.
 fn told_of(form: Form) -> [u16; MOST]
     ensures { λ r. ⌜ r ≡ toldOf form ⌝ }
 {
     match form {
         Form::Job => [255, 60000, 60000, 60000, 255],
         Form::Setting => [255, 8, 2, 64, 65535],
+        Form::Kernel => [255, 0, 255, 64, 0],
         Form::Quanta => [64, 64, 0, 0, 0],
     }
 }
@@ -124,6 +131,18 @@ fn is_named(form: Form, i: usize) -> bool
     match form {
         Form::Job => false,
         Form::Setting => i == 2,
+        Form::Kernel => false,
+        Form::Quanta => false,
+    }
+}
+
+fn is_name_only(form: Form, i: usize) -> bool
+    ensures { λ r. ⌜ r ≡ isNameOnly form i ⌝ }
+{
+    match form {
+        Form::Job => false,
+        Form::Setting => false,
+        Form::Kernel => i == 1,
         Form::Quanta => false,
     }
 }
@@ -138,6 +157,19 @@ fn number_only(other: WordAnswer) -> WordAnswer
     }
 }
 
+// The number of a placed job's policy, by its name.
+fn policy_named(word: &[u8]) -> WordAnswer
+    ensures { λ r. ⌜ r ≡ policyNamed (now (word .entry)) ⌝ }
+{
+    if same_bytes(word, b"fifo") {
+        return WordAnswer::Number(1);
+    }
+    if same_bytes(word, b"rr") {
+        return WordAnswer::Number(2);
+    }
+    WordAnswer::Wrong(Fault::NotAPolicyName)
+}
+
 // A policy's number by its name, or the number that the word is.
 fn policy_or(word: &[u8], other: WordAnswer) -> WordAnswer
     ensures { λ r. ⌜ r ≡ policyOr (now (word .entry)) other ⌝ }
@@ -145,11 +177,9 @@ fn policy_or(word: &[u8], other: WordAnswer) -> WordAnswer
     if same_bytes(word, b"none") {
         return WordAnswer::Number(0);
     }
-    if same_bytes(word, b"fifo") {
-        return WordAnswer::Number(1);
-    }
-    if same_bytes(word, b"rr") {
-        return WordAnswer::Number(2);
+    let named = policy_named(word);
+    if let WordAnswer::Number(number) = named {
+        return WordAnswer::Number(number);
     }
     number_only(other)
 }
@@ -159,6 +189,9 @@ fn read_word(form: Form, i: usize, limit: u16, word: &[u8]) -> WordAnswer
     requires { ⌜ i < 5 ⌝ }
     ensures { λ r. ⌜ r ≡ wordOf form i limit (now (word .entry)) ⌝ }
 {
+    if is_name_only(form, i) {
+        return policy_named(word);
+    }
     let number = words::read_number(word, place_of(form, i), told_at(form, i), limit);
     if is_named(form, i) {
         return policy_or(word, number);

@@ -1,4 +1,4 @@
-// Texts: job lists and configurations.
+// Texts: job lists, configurations and kernel records.
 pub mod blocks;
 pub mod fault;
 pub mod fields;

@@ -1,4 +1,4 @@
-// Texts of rows: job lists and configurations, line by line.
+// Texts of rows: job lists, configurations and kernel records, line by line.
 ghost use mathlib.Core.Path.{_≡_};
 ghost use Prim.Native.Nat.{_+_, _≤_};
 ghost use lib.ListN.{length, drop};
@@ -45,6 +45,7 @@ fn says_range(form: Form, word: &[u8]) -> bool
     match form {
         Form::Job => same_bytes(word, b"quanta"),
         Form::Setting => false,
+        Form::Kernel => false,
         Form::Quanta => false,
     }
 }
@@ -55,6 +56,7 @@ fn says_placed(form: Form, word: &[u8]) -> bool
     match form {
         Form::Job => false,
         Form::Setting => same_bytes(word, b"placed"),
+        Form::Kernel => false,
         Form::Quanta => false,
     }
 }

@@ -1,4 +1,5 @@
--- What is said of a refusal is true: of the job, the range, the setting and the sizes. Assumes nothing.
+-- What is said of a refusal is true: of the job, the range, the setting and the sizes; KernelTruths has the priorities and the kernel
+-- records. Assumes nothing.
 use Prim.Native.Nat.{ℕ, _*_, _/_, _%_, min, _≤_, _<_}
 use mathlib.Core.Path.{_≡_, refl, sym, _∙_}
 use mathlib.Core.Bool.{Bool, true, false, false≢true}
@@ -18,12 +19,13 @@ use Rattle.records.specs.declared.job.Job.{Job}
 use Rattle.records.specs.declared.judge.JobRule.{JobRule}
 use Rattle.records.specs.declared.judge.JobRule.the-variants.{Id, Order, Times}
 use Rattle.configuration.specs.Settings.{notPlaced, fifo, roundRobin, settingSize, settingAt}
-use Rattle.configuration.specs.Configuration.{placedLevel, shaped, sharing, levelled, settingOk}
+use Rattle.configuration.specs.Configuration.{placedLevel, scheduled, shaped, sharing, mayShare, levelled, settingOk}
 use Rattle.configuration.specs.declared.setting.Setting.{Setting}
 use Rattle.configuration.specs.declared.judge.SettingRule.{SettingRule}
 use Rattle.configuration.specs.declared.judge.SettingRule.the-variants.{Id as SettingId, Shape, Sharing, Placed}
-use Rattle.reasons.specs.Reasons.{timesReason, jobReasonAt, jobReason, sizeReason, rangeReason, countReason, shapeReason, sharingReason, settingReasonAt, settingReason}
-use Rattle.reasons.specs.Claims.{TrueOfTimes, TrueOfJob, TrueOfRange, TrueOfSize, TrueOfCount, TrueOfShape, TrueOfSetting}
+use Rattle.reasons.specs.declared.reason.Sentence.{Sentence}
+use Rattle.reasons.specs.Reasons.{timesReason, jobReasonAt, jobReason, sizeReason, rangeReason, countReason, quantumReason, shapeReason, sharingReason, settingReasonAt, settingReason}
+use Rattle.reasons.specs.Claims.{TrueOfTimes, TrueOfJob, TrueOfRange, TrueOfSize, TrueOfCount, TrueOfQuantum, TrueOfShape, TrueOfSetting}
 
 -- ---- refusals 2, 3 and 5
 
@@ -93,15 +95,41 @@ size-true size bad = by (eqb size 0) (eqb (size % jobSize) 0) refl refl
         ]
     by false false ea eb = rw (ea, eb) (inr (inr (refl, eqb-false (size % jobSize) 0 eb)))
 
-pub count-true : (size n : ℕ) → (size ≡ settingSize * n → ⊥) → TrueOfCount size n (countReason size n)
+pub count-true : (bytes : Sentence) (size n : ℕ) → (size ≡ settingSize * n → ⊥) → TrueOfCount bytes size n (countReason bytes size n)
 unfolding countReason
-count-true size n bad = by (eqb (size % settingSize) 0) refl
+count-true bytes size n bad = by (eqb (size % settingSize) 0) refl
   where
-    by : (a : Bool) → eqb (size % settingSize) 0 ≡ a → TrueOfCount size n (countReason size n)
+    by : (a : Bool) → eqb (size % settingSize) 0 ≡ a → TrueOfCount bytes size n (countReason bytes size n)
     by true e = rw e (inl (refl, eqb-true (size % settingSize) 0 e, λ f. bad (omega (arith, eqb-true (size % settingSize) 0 e, f))))
     by false e = rw e (inr (refl, eqb-false (size % settingSize) 0 e))
 
 -- ---- refusals 8 to 11
+
+-- Of the quantum of a placed job, whether a setting or a kernel record has it.
+module _ (at low high policy quantum : ℕ) (bad : scheduled low high policy quantum ≡ false) where
+  fifo-quantum : policy ≡ fifo → quantum ≡ 0 → ⊥
+  unfolding scheduled
+  fifo-quantum e f = false≢true (sym bad ∙ rw (eq-eqb policy fifo e, eq-eqb quantum 0 f) refl)
+
+  quantum-outside : policy ≡ roundRobin → (quantum < low) ⊎ (high < quantum)
+  unfolding scheduled
+  quantum-outside e = by (ltb quantum low) (ltb high quantum) refl refl
+    where
+      by : (a b : Bool) → ltb quantum low ≡ a → ltb high quantum ≡ b → (quantum < low) ⊎ (high < quantum)
+      by true b ea eb = inl (ltb-true quantum low ea)
+      by false true ea eb = inr (ltb-true high quantum eb)
+      by false false ea eb =
+          absurd (false≢true (sym bad ∙ rw (ne-eqb policy fifo (λ f. omega (arith, e, f)), eq-eqb policy roundRobin e, le-leb low quantum (ltb-false quantum low ea), le-leb quantum high (ltb-false high quantum eb)) refl))
+
+  pub quantum-true : eqb policy notPlaced ≡ false → ltb roundRobin policy ≡ false → TrueOfQuantum at low high policy quantum (quantumReason at low high policy quantum)
+  unfolding quantumReason
+  quantum-true placed known = by (eqb policy fifo) refl
+    where
+      by : (a : Bool) → eqb policy fifo ≡ a → TrueOfQuantum at low high policy quantum (quantumReason at low high policy quantum)
+      by true e = rw e (inl (refl, eqb-true policy fifo e, fifo-quantum (eqb-true policy fifo e)))
+      by false e =
+          let two : policy ≡ roundRobin = omega (arith, eqb-false policy notPlaced placed, ltb-false roundRobin policy known, eqb-false policy fifo e) in
+          rw e (inr (refl, two, quantum-outside two))
 
 module _ (at n low high : ℕ) (setting : Setting) (bad : shaped n low high setting ≡ false) where
   abbrev policy : ℕ
@@ -114,7 +142,7 @@ module _ (at n low high : ℕ) (setting : Setting) (bad : shaped n low high sett
   quantum = setting .quantum
 
   none-numbers : eqb policy notPlaced ≡ true → (level ≡ 0 → ⊥) ⊎ (quantum ≡ 0 → ⊥)
-  unfolding shaped
+  unfolding shaped scheduled
   none-numbers e = by (eqb level 0) (eqb quantum 0) refl refl
     where
       by : (a b : Bool) → eqb level 0 ≡ a → eqb quantum 0 ≡ b → (level ≡ 0 → ⊥) ⊎ (quantum ≡ 0 → ⊥)
@@ -122,58 +150,51 @@ module _ (at n low high : ℕ) (setting : Setting) (bad : shaped n low high sett
       by true false ea eb = inr (eqb-false quantum 0 eb)
       by false b ea eb = inl (eqb-false level 0 ea)
 
-  -- Any other policy than the one that is known.
-  other : (known k : ℕ) → eqb policy known ≡ true → (known ≡ k → ⊥) → eqb policy k ≡ false
-  other known k e apart = ne-eqb policy k (λ f. apart (sym (eqb-true policy known e) ∙ f))
-
-  fifo-quantum : placedLevel n level ≡ true → eqb policy fifo ≡ true → quantum ≡ 0 → ⊥
+  -- Where the policy and the level are in order, the quantum is at fault.
+  not-scheduled : eqb policy notPlaced ≡ false → placedLevel n level ≡ true → scheduled low high policy quantum ≡ false
   unfolding shaped
-  fifo-quantum on e f = false≢true (sym bad ∙ rw (other fifo notPlaced e (λ g. omega (arith, g)), on, e, eq-eqb quantum 0 f) refl)
-
-  quantum-outside : placedLevel n level ≡ true → eqb policy roundRobin ≡ true → (quantum < low) ⊎ (high < quantum)
-  unfolding shaped
-  quantum-outside on e = by (ltb quantum low) (ltb high quantum) refl refl
-    where
-      by : (a b : Bool) → ltb quantum low ≡ a → ltb high quantum ≡ b → (quantum < low) ⊎ (high < quantum)
-      by true b ea eb = inl (ltb-true quantum low ea)
-      by false true ea eb = inr (ltb-true high quantum eb)
-      by false false ea eb =
-          absurd (false≢true (sym bad ∙ rw (other roundRobin notPlaced e (λ g. omega (arith, g)), other roundRobin fifo e (λ g. omega (arith, g)), on, e, le-leb low quantum (ltb-false quantum low ea), le-leb quantum high (ltb-false high quantum eb)) refl))
+  not-scheduled placed on =
+      let same : shaped n low high setting ≡ scheduled low high policy quantum = rw (placed, on) refl in
+      sym same ∙ bad
 
   shape-true : TrueOfShape at n low high setting (shapeReason at n low high setting)
   unfolding shapeReason placedLevel
-  shape-true = by (eqb policy notPlaced) (ltb roundRobin policy) (eqb level 0) (ltb n level) (eqb policy fifo) refl refl refl refl refl
+  shape-true = by (eqb policy notPlaced) (ltb roundRobin policy) (eqb level 0) (ltb n level) refl refl refl refl
     where
       on : eqb level 0 ≡ false → ltb n level ≡ false → placedLevel n level ≡ true
       on ec ed = simp (le-leb 1 level (omega (arith, eqb-false level 0 ec)), le-leb level n (ltb-false n level ed))
 
-      by : (a b c d e : Bool) → eqb policy notPlaced ≡ a → ltb roundRobin policy ≡ b → eqb level 0 ≡ c → ltb n level ≡ d → eqb policy fifo ≡ e → TrueOfShape at n low high setting (shapeReason at n low high setting)
-      by true b c d e ea eb ec ed ee = rw ea (inl (refl, eqb-true policy notPlaced ea, none-numbers ea))
-      by false true c d e ea eb ec ed ee = rw (ea, eb) (inr (inl (refl, ltb-true roundRobin policy eb)))
-      by false false true d e ea eb ec ed ee = rw (ea, eb, ec) (inr (inr (inl (refl, inl (eqb-true level 0 ec)))))
-      by false false false true e ea eb ec ed ee = rw (ea, eb, ec, ed) (inr (inr (inl (refl, inr (ltb-true n level ed)))))
-      by false false false false true ea eb ec ed ee = rw (ea, eb, ec, ed, ee) (inr (inr (inr (inl (refl, eqb-true policy fifo ee, fifo-quantum (on ec ed) ee)))))
-      by false false false false false ea eb ec ed ee =
-          let two : policy ≡ roundRobin = omega (arith, eqb-false policy notPlaced ea, ltb-false roundRobin policy eb, eqb-false policy fifo ee) in
-          rw (ea, eb, ec, ed, ee) (inr (inr (inr (inr (refl, two, quantum-outside (on ec ed) (eq-eqb policy roundRobin two))))))
+      by : (a b c d : Bool) → eqb policy notPlaced ≡ a → ltb roundRobin policy ≡ b → eqb level 0 ≡ c → ltb n level ≡ d → TrueOfShape at n low high setting (shapeReason at n low high setting)
+      by true b c d ea eb ec ed = rw ea (inl (refl, eqb-true policy notPlaced ea, none-numbers ea))
+      by false true c d ea eb ec ed = rw (ea, eb) (inr (inl (refl, ltb-true roundRobin policy eb)))
+      by false false true d ea eb ec ed = rw (ea, eb, ec) (inr (inr (inl (refl, inl (eqb-true level 0 ec)))))
+      by false false false true ea eb ec ed = rw (ea, eb, ec, ed) (inr (inr (inl (refl, inr (ltb-true n level ed)))))
+      by false false false false ea eb ec ed = rw (ea, eb, ec, ed) (inr (inr (inr (quantum-true at low high policy quantum (not-scheduled ea (on ec ed)) ea eb))))
 
-sharing-true : (at n low high : ℕ) (settings : List Setting) (job : Job) (setting : Setting) → levelled n settings setting ≡ false
-    → TrueOfSetting at n low high (sharing n settings (setting .level)) job setting (sharingReason at setting)
-unfolding levelled sharingReason
-sharing-true at n low high settings job setting bad = by (eqb (setting .policy) fifo) (eqb (setting .policy) roundRobin) refl refl
+-- Who may not stand with so many jobs: with policy 1 not alone, or with policy 2 alone.
+pub who-shares : (policy jobs : ℕ) → mayShare policy jobs ≡ false → ((policy ≡ fifo) × (jobs ≡ 1 → ⊥)) ⊎ ((policy ≡ roundRobin) × (jobs < 2))
+unfolding mayShare
+who-shares policy jobs bad = by (eqb policy fifo) (eqb policy roundRobin) refl refl
   where
-    by : (a b : Bool) → eqb (setting .policy) fifo ≡ a → eqb (setting .policy) roundRobin ≡ b → TrueOfSetting at n low high (sharing n settings (setting .level)) job setting (sharingReason at setting)
-    by true true ea eb = absurd (let x = eqb-true (setting .policy) fifo ea in let y = eqb-true (setting .policy) roundRobin eb in omega (arith, x, y))
-    by true false ea eb =
-        rw ea (inr (inr (inl (refl, eqb-true (setting .policy) fifo ea, λ f. false≢true (sym bad ∙ rw (ea, eb, eq-eqb (sharing n settings (setting .level)) 1 f) refl)))))
-    by false true ea eb = rw ea (inr (inr (inr (inl (refl, eqb-true (setting .policy) roundRobin eb, few)))))
+    by : (a b : Bool) → eqb policy fifo ≡ a → eqb policy roundRobin ≡ b → ((policy ≡ fifo) × (jobs ≡ 1 → ⊥)) ⊎ ((policy ≡ roundRobin) × (jobs < 2))
+    by true true ea eb = absurd (let x = eqb-true policy fifo ea in let y = eqb-true policy roundRobin eb in omega (arith, x, y))
+    by true false ea eb = inl (eqb-true policy fifo ea, λ f. false≢true (sym bad ∙ rw (ea, eb, eq-eqb jobs 1 f) refl))
+    by false true ea eb = inr (eqb-true policy roundRobin eb, few)
       where
-        few : sharing n settings (setting .level) < 2
-        few = elim (decLe 2 (sharing n settings (setting .level))) [
-          | yes l ↦ absurd (false≢true (sym bad ∙ rw (ea, eb, le-leb 2 (sharing n settings (setting .level)) l) refl))
+        few : jobs < 2
+        few = elim (decLe 2 jobs) [
+          | yes l ↦ absurd (false≢true (sym bad ∙ rw (ea, eb, le-leb 2 jobs l) refl))
           | no l ↦ omega arith
         ]
     by false false ea eb = absurd (false≢true (sym bad ∙ rw (ea, eb) refl))
+
+sharing-true : (at n low high : ℕ) (settings : List Setting) (job : Job) (setting : Setting) → levelled n settings setting ≡ false
+    → TrueOfSetting at n low high (sharing n settings (setting .level)) job setting (sharingReason at setting)
+unfolding sharingReason
+sharing-true at n low high settings job setting bad = elim (who-shares (setting .policy) (sharing n settings (setting .level)) bad) [
+  | inl w ↦ rw (eq-eqb (setting .policy) fifo (w .0)) (inr (inr (inl (refl, w .0, w .1))))
+  | inr w ↦ rw (ne-eqb (setting .policy) fifo (λ f. omega (arith, w .0, f))) (inr (inr (inr (inl (refl, w .0, w .1)))))
+]
 
 -- Of the first setting of which the rule does not hold, wherever it does not hold of all.
 pub settings-true : (rule : SettingRule) (jobs : List Job) (settings : List Setting) (n low high : ℕ) → let count = min n mostJobs in

@@ -2,7 +2,7 @@
 ghost use mathlib.Core.Path.{_≡_};
 ghost use Prim.Native.Nat.{_≤_};
 ghost use Rattle.records.specs.Limits.{mostJobs};
-ghost use Rattle.reasons.specs.Reasons.{countReason, shapeReason, sharingReason, settingReasonAt, settingReason, handInReason};
+ghost use Rattle.reasons.specs.Reasons.{countReason, quantumReason, shapeReason, sharingReason, settingReasonAt, settingReason, handInReason};
 use crate::reason;
 use crate::reason::Reason;
 use crate::reason::Sentence;
@@ -11,14 +11,31 @@ use configuration::setting::Setting;
 use records::job::Job;
 use records::range::Range;
 
-fn count_reason(size: u32, n: usize) -> Reason
+// Refusal 7 of a block of `size` bytes, `bytes` being the sentence where records of 4 bytes do not make up the block.
+pub(crate) fn count_reason(bytes: Sentence, size: u32, n: usize) -> Reason
     requires { ⌜ n ≤ mostJobs ⌝ }
-    ensures { λ r. ⌜ r ≡ countReason size n ⌝ }
+    ensures { λ r. ⌜ r ≡ countReason bytes size n ⌝ }
 {
     if size % 4 == 0 {
         return reason::on_whole(Sentence::SettingCount, size / 4, n as u32);
     }
-    reason::on_whole(Sentence::SettingBytes, size, 0)
+    reason::on_whole(bytes, size, 0)
+}
+
+// What is wrong with the quantum of a placed job of this policy.
+pub(crate) fn quantum_reason(at: usize, range: Range, policy: u8, quantum: u8) -> Reason
+    ensures { λ r. ⌜ r ≡ quantumReason at (range .low) (range .high) policy quantum ⌝ }
+{
+    if policy == Setting::FIFO {
+        return reason::reason_of(Sentence::FifoQuantum, at, quantum as u32, 0, 0);
+    }
+    reason::reason_of(
+        Sentence::QuantumOutside,
+        at,
+        quantum as u32,
+        range.low as u32,
+        range.high as u32,
+    )
 }
 
 // What is wrong with the shape of a setting: its policy, else its level, else its quantum.
@@ -27,8 +44,8 @@ fn shape_reason(at: usize, n: usize, range: Range, setting: Setting) -> Reason
     ensures { λ r. ⌜ r ≡ shapeReason at n (range .low) (range .high) setting ⌝ }
 {
     let level = setting.level as u32;
-    let quantum = setting.quantum as u32;
     if setting.policy == Setting::NOT_PLACED {
+        let quantum = setting.quantum as u32;
         return reason::reason_of(Sentence::NumbersOfNone, at, level, quantum, 0);
     }
     if Setting::ROUND_ROBIN < setting.policy {
@@ -40,16 +57,7 @@ fn shape_reason(at: usize, n: usize, range: Range, setting: Setting) -> Reason
     if (n as u32) < level {
         return reason::reason_of(Sentence::LevelOutside, at, level, n as u32, 0);
     }
-    if setting.policy == Setting::FIFO {
-        return reason::reason_of(Sentence::FifoQuantum, at, quantum, 0, 0);
-    }
-    reason::reason_of(
-        Sentence::QuantumOutside,
-        at,
-        quantum,
-        range.low as u32,
-        range.high as u32,
-    )
+    quantum_reason(at, range, setting.policy, setting.quantum)
 }
 
 fn sharing_reason(at: usize, setting: Setting) -> Reason
@@ -115,7 +123,7 @@ pub fn hand_in_reason(
     ensures { λ r. ⌜ r ≡ handInReason number size jobs settings n (range .low) (range .high) ⌝ }
 {
     if number == 7 {
-        return count_reason(size, Job::at_most(n));
+        return count_reason(Sentence::SettingBytes, size, Job::at_most(n));
     }
     if number == 8 {
         return setting_reason(SettingRule::Id, jobs, settings, n, range);

@@ -29,6 +29,13 @@ pub enum Sentence {
     FifoShares,
     Alone,
     NotPlaced,
+    EmptyPriorities,
+    FewPriorities,
+    KernelBytes,
+    PriorityOutside,
+    KernelPolicy,
+    FifoSharesPriority,
+    AlonePriority,
     Unknown,
 }
 

@@ -32,6 +32,15 @@ cast-result-3 c = search needs
 add-result-3 : tie.Need-add-result-3
 add-result-3 c = search needs
 
+enum-told-4 : tie.Need-enum-told-4
+enum-told-4 c = search needs
+
+cast-result-4 : tie.Need-cast-result-4
+cast-result-4 c = search needs
+
+add-result-4 : tie.Need-add-result-4
+add-result-4 c = search needs
+
 returns : tie.Need-returns
 returns c = sym (ap (λ (f : Form). placeOf f (c .before .before .args .i)) (c .enum-told .given .1))
 
@@ -40,6 +49,9 @@ returns-2 c = sym (ap (λ (f : Form). placeOf f (c .before .before .args .i)) (c
 
 returns-3 : tie.Need-returns-3
 returns-3 c = sym (ap (λ (f : Form). placeOf f (c .before .before .args .i)) (c .enum-told3 .given .1))
+
+returns-4 : tie.Need-returns-4
+returns-4 c = sym (ap (λ (f : Form). placeOf f (c .before .before .args .i)) (c .enum-told4 .given .1))
 
 pub place-of-spec : {M : Type 1} → statement M
 place-of-spec =
@@ -54,6 +66,10 @@ place-of-spec =
     enum-told-3
     cast-result-3
     add-result-3
+    enum-told-4
+    cast-result-4
+    add-result-4
     returns
     returns-2
-    returns-3)
+    returns-3
+    returns-4)

@@ -1,5 +1,6 @@
-use mathlib.Core.Path.{sym, _∙_}
-use Rattle.lists.specs.Rows.{policyOr}
+use mathlib.Core.Path.{sym, ap, _∙_}
+use Rattle.lists.specs.Rows.{namedOr, policyOr}
+use Rattle.lists.specs.declared.words.WordAnswer.{WordAnswer}
 use borrow.Author.Needs.{needs}
 use Rattle.lists.proofs.fields.policy_or.Statement.{statement}
 use Rattle.lists.proofs.fields.policy_or.Tie as tie
@@ -14,34 +15,32 @@ returns : tie.Need-returns
 unfolding policyOr
 returns c = simp (sym (c .before .same-bytes .ensures) ∙ c .if1 .taken)
 
-slice-aggregate-same-bytes-2 : tie.Need-slice-aggregate-same-bytes-2
-slice-aggregate-same-bytes-2 c = search needs
+policy-named-requires : tie.Need-policy-named-requires
+policy-named-requires c κs = search needs
 
-same-bytes-requires-2 : tie.Need-same-bytes-requires-2
-same-bytes-requires-2 c κs = search needs
+enum-known-named : tie.Need-enum-known-named
+enum-known-named c = search needs
 
 returns-2 : tie.Need-returns-2
 unfolding policyOr
-returns-2 c = simp (sym (c .before .before .before .before .same-bytes .ensures) ∙ c .before .before .before .if1 .left, sym (c .before .same-bytes2 .ensures) ∙ c .if2 .taken)
+returns-2 c =
+    let named = c .before .before .before in
+    let test = named .before in
+    sym (ap (λ (x : WordAnswer). namedOr x (test .before .before .before .before .args .other)) (sym (named .policy-named .ensures) ∙ c .before .named .given .1)) ∙ simp (sym (test .before .same-bytes .ensures) ∙ test .if1 .left)
 
-slice-aggregate-same-bytes-3 : tie.Need-slice-aggregate-same-bytes-3
-slice-aggregate-same-bytes-3 c = search needs
-
-same-bytes-requires-3 : tie.Need-same-bytes-requires-3
-same-bytes-requires-3 c κs = search needs
-
-returns-3 : tie.Need-returns-3
-unfolding policyOr
-returns-3 c = simp (sym (c .before .before .before .before .before .before .before .same-bytes .ensures) ∙ c .before .before .before .before .before .before .if1 .left, sym (c .before .before .before .before .same-bytes2 .ensures) ∙ c .before .before .before .if2 .left, sym (c .before .same-bytes3 .ensures) ∙ c .if3 .taken)
+enum-told : tie.Need-enum-told
+enum-told c = search needs
 
 number-only-requires : tie.Need-number-only-requires
 number-only-requires c κs = search needs
 
-returns-4 : tie.Need-returns-4
+returns-3 : tie.Need-returns-3
 unfolding policyOr
-returns-4 c =
-    let p = c .before in
-    c .number-only .ensures ∙ simp (sym (p .before .before .before .before .before .before .before .same-bytes .ensures) ∙ p .before .before .before .before .before .before .if1 .left, sym (p .before .before .before .before .same-bytes2 .ensures) ∙ p .before .before .before .if2 .left, sym (p .before .same-bytes3 .ensures) ∙ p .if3 .left)
+returns-3 c =
+    let told = c .before in
+    let named = told .before .before in
+    let test = named .before in
+    c .number-only .ensures ∙ sym (ap (λ (x : WordAnswer). namedOr x (test .before .before .before .before .args .other)) (sym (named .policy-named .ensures) ∙ told .enum-told .given .1)) ∙ simp (sym (test .before .same-bytes .ensures) ∙ test .if1 .left)
 
 pub policy-or-spec : {M : Type 1} → statement M
 policy-or-spec =
@@ -50,11 +49,9 @@ policy-or-spec =
     slice-aggregate-same-bytes
     same-bytes-requires
     returns
-    slice-aggregate-same-bytes-2
-    same-bytes-requires-2
+    policy-named-requires
+    enum-known-named
     returns-2
-    slice-aggregate-same-bytes-3
-    same-bytes-requires-3
-    returns-3
+    enum-told
     number-only-requires
-    returns-4)
+    returns-3)

@@ -5,9 +5,9 @@ use native.Mathlib.Omega.{arith}
 use lib.ListN.{length, take}
 use borrow.Author.Needs.{needs}
 use Rattle.records.specs.Limits.{mostJobs}
+use Rattle.records.proofs.Mapped.{table-next, table-all}
 use Rattle.configuration.specs.Settings.{settingTable, blankSetting}
 use Rattle.lists.specs.Lists.{settingFrom}
-use Rattle.lists.proofs.RowByRow.{table-next, table-all}
 use Rattle.lists.proofs.tables.settings_from.Statement.{statement}
 use Rattle.lists.proofs.tables.settings_from.Tie as tie
 
@@ -52,14 +52,14 @@ loop-again c =
     let l = c .before .before .before in
     let s = l .before .before in (
       omega (arith, c .before .before .loop-test .taken),
-      table-next settingFrom blankSetting (s .args .t1) (size s) (l .loop .i) (l .loop .settings) (c .setting-from .result) _ (omega (arith, c .before .before .loop-test .taken, l .before .at-most .ensures)) (l .loop .inv .1) (c .setting-from .ensures),
+      table-next settingFrom blankSetting (s .args .t1) mostJobs (size s) (l .loop .i) (l .loop .settings) (c .setting-from .result) _ (omega (arith, c .before .before .loop-test .taken, l .before .at-most .ensures)) (l .loop .inv .1) (c .setting-from .ensures),
     )
 
 returns : tie.Need-returns Inv-loop μ-loop
 returns c =
     let l = c .before in
     let s = l .before .before in
-    l .loop .inv .1 ∙ table-all settingFrom blankSetting (s .args .t1) (size s) (s .args .n) (l .before .at-most .result) (l .loop .i) (l .before .at-most .ensures) (omega (arith, l .loop .inv .0, c .loop-test .left))
+    l .loop .inv .1 ∙ table-all settingFrom blankSetting (s .args .t1) mostJobs (size s) (s .args .n) (l .before .at-most .result) (l .loop .i) (l .before .at-most .ensures) (omega (arith, l .loop .inv .0, c .loop-test .left))
 
 pub settings-from-spec : {M : Type 1} → statement M
 settings-from-spec =

@@ -1,5 +1,6 @@
 use mathlib.Core.Path.{ap, _∙_}
 use borrow.Author.Tests.{eq-eqb, ne-eqb}
+use Rattle.reasons.specs.declared.reason.Sentence.the-variants.{SettingBytes}
 use Rattle.reasons.specs.Reasons.{countReason, handInReason}
 use borrow.Author.Needs.{needs}
 use Rattle.reasons.proofs.hand_in.hand_in_reason.Statement.{statement}
@@ -15,7 +16,7 @@ returns : tie.Need-returns
 unfolding handInReason
 returns c =
     let m = c .before in
-    c .count-reason .ensures ∙ ap (countReason (m .before .before .args .size)) (m .at-most .ensures) ∙ simp (eq-eqb _ _ (m .before .if1 .taken))
+    c .count-reason .ensures ∙ ap (countReason SettingBytes (m .before .before .args .size)) (m .at-most .ensures) ∙ simp (eq-eqb _ _ (m .before .if1 .taken))
 
 setting-reason-requires : tie.Need-setting-reason-requires
 setting-reason-requires c κs = search needs

@@ -16,7 +16,7 @@ reason-of-requires c κs = search needs
 
 returns : tie.Need-returns
 unfolding shapeReason
-returns c = c .reason-of .ensures ∙ simp (eq-eqb _ _ (c .before .if1 .taken))
+returns c = c .reason-of .ensures ∙ simp (eq-eqb _ _ (c .before .before .if1 .taken))
 
 cast-reason-of : tie.Need-cast-reason-of
 cast-reason-of c = search needs
@@ -51,25 +51,12 @@ returns-4 : tie.Need-returns-4
 unfolding shapeReason
 returns-4 c = c .reason-of4 .ensures ∙ simp (ne-eqb _ _ (c .before .before .before .before .before .if1 .left), le-ltb _ _ (c .before .before .before .if2 .left), ne-eqb _ _ (c .before .before .if3 .left), lt-ltb _ _ (c .before .if4 .taken))
 
-reason-of-requires-5 : tie.Need-reason-of-requires-5
-reason-of-requires-5 c κs = search needs
+quantum-reason-requires : tie.Need-quantum-reason-requires
+quantum-reason-requires c κs = search needs
 
 returns-5 : tie.Need-returns-5
 unfolding shapeReason
-returns-5 c = c .reason-of5 .ensures ∙ simp (ne-eqb _ _ (c .before .before .before .before .before .before .before .if1 .left), le-ltb _ _ (c .before .before .before .before .before .if2 .left), ne-eqb _ _ (c .before .before .before .before .if3 .left), le-ltb _ _ (c .before .before .before .if4 .left), eq-eqb _ _ (c .before .if5 .taken))
-
-cast-reason-of-4 : tie.Need-cast-reason-of-4
-cast-reason-of-4 c = search needs
-
-cast-reason-of-5 : tie.Need-cast-reason-of-5
-cast-reason-of-5 c = search needs
-
-reason-of-requires-6 : tie.Need-reason-of-requires-6
-reason-of-requires-6 c κs = search needs
-
-returns-6 : tie.Need-returns-6
-unfolding shapeReason
-returns-6 c = c .reason-of6 .ensures ∙ simp (ne-eqb _ _ (c .before .before .before .before .before .before .before .before .before .if1 .left), le-ltb _ _ (c .before .before .before .before .before .before .before .if2 .left), ne-eqb _ _ (c .before .before .before .before .before .before .if3 .left), le-ltb _ _ (c .before .before .before .before .before .if4 .left), ne-eqb _ _ (c .before .before .before .if5 .left))
+returns-5 c = c .quantum-reason .ensures ∙ simp (ne-eqb _ _ (c .before .before .before .before .before .if1 .left), le-ltb _ _ (c .before .before .before .if2 .left), ne-eqb _ _ (c .before .before .if3 .left), le-ltb _ _ (c .before .if4 .left))
 
 pub shape-reason-spec : {M : Type 1} → statement M
 shape-reason-spec =
@@ -89,9 +76,5 @@ shape-reason-spec =
     cast-reason-of-3
     reason-of-requires-4
     returns-4
-    reason-of-requires-5
-    returns-5
-    cast-reason-of-4
-    cast-reason-of-5
-    reason-of-requires-6
-    returns-6)
+    quantum-reason-requires
+    returns-5)
