@@ -35,7 +35,7 @@ use Rattle.planner.specs.declared.table.TablePlan.{TablePlan}
 use Rattle.planner.specs.Plans.{planIn, planned, TablePromise}
 use Rattle.planner.proofs.Holding.{plan-held}
 use Rattle.text.specs.Keys.{jobLine, lastLine, keyText, refusedText, keyOr, keyOf, keyAnswer, KeyPromise, tableText}
-use Rattle.text.proofs.Writing.{rows-same}
+use Rattle.writing.proofs.Writing.{rows-same}
 
 -- As many jobs are placed as the plan's set has.
 abbrev placedOf : ℕ → List Setting → ℕ

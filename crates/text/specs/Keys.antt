@@ -15,24 +15,26 @@ use Rattle.configuration.specs.Settings.{settingAt}
 use Rattle.configuration.specs.Configuration.{isPlaced}
 use Rattle.assignment.specs.Plan.{Plan, plan}
 use Rattle.planner.specs.Plans.{PlanHeld}
-use Rattle.lists.specs.Decimals.{lineFeed, decimal}
-use Rattle.text.specs.Lines.{line, rowsTo}
+use Rattle.writing.specs.Templates.{rowsTo, filled}
 
--- "A line per job (id, level, policy, quantum, bound)"; a job left over has four zeros after its id.
+-- `% % % % %`: "a line per job (id, level, policy, quantum, bound, one space between)"; a job left over has four zeros after its id. "Each
+-- line ends in one line feed."
 abbrev pub jobLine : List Setting → List ℕ → ℕ → List ℕ
-jobLine settings bounds k = let s = settingAt settings k in line (s .id) (s .level) (s .policy) (s .quantum) (getD bounds k 0)
+jobLine settings bounds k =
+    let s = settingAt settings k in
+    filled (37 ∷ 32 ∷ 37 ∷ 32 ∷ 37 ∷ 32 ∷ 37 ∷ 32 ∷ 37 ∷ 10 ∷ []) (s .id ∷ s .level ∷ s .policy ∷ s .quantum ∷ getD bounds k 0 ∷ [])
 
--- "A last line `placed m of n`".
+-- `placed % of %`: "a last line `placed m of n`".
 abbrev pub lastLine : ℕ → ℕ → List ℕ
-lastLine m n = (112 ∷ 108 ∷ 97 ∷ 99 ∷ 101 ∷ 100 ∷ 32 ∷ []) ++ (decimal m ++ ((32 ∷ 111 ∷ 102 ∷ 32 ∷ []) ++ (decimal n ++ (lineFeed ∷ []))))
+lastLine m n = filled (112 ∷ 108 ∷ 97 ∷ 99 ∷ 101 ∷ 100 ∷ 32 ∷ 37 ∷ 32 ∷ 111 ∷ 102 ∷ 32 ∷ 37 ∷ 10 ∷ []) (m ∷ n ∷ [])
 
 -- The key of a plan for n jobs, "m being the number of jobs placed".
 unfoldable pub keyText : ℕ → Plan → List ℕ
 keyText n p = rowsTo (jobLine (p .settings) (p .bounds)) n ++ lastLine (count n (isPlaced (p .settings))) n
 
--- "Only one line, `refused`, a space and the number."
+-- `refused %`: "only one line, `refused`, a space and the number".
 abbrev pub refusedText : ℕ → List ℕ
-refusedText k = (114 ∷ 101 ∷ 102 ∷ 117 ∷ 115 ∷ 101 ∷ 100 ∷ 32 ∷ []) ++ (decimal k ++ (lineFeed ∷ []))
+refusedText k = filled (114 ∷ 101 ∷ 102 ∷ 117 ∷ 115 ∷ 101 ∷ 100 ∷ 32 ∷ 37 ∷ 10 ∷ []) (k ∷ [])
 
 abbrev pub keyOr : Answer (Unit {0}) → List ℕ → List ℕ
 keyOr (refused k) text = refusedText k

@@ -19,14 +19,15 @@ pub struct Told {
     pub length: usize,
 }
 
-pub(crate) fn yes_or_no(yes: bool) -> Answered
+// Yes or no. No entry.
+pub fn yes_or_no(yes: bool) -> Answered
     ensures { λ r. ⌜ answered r ≡ given yes ⌝ }
 {
     if yes { Answered::Yes } else { Answered::No }
 }
 
-// The answer of a call that is turned down: no text.
-pub(crate) fn turned(refusal: Refusal) -> Told
+// The answer of a call that is turned down: no text. No entry.
+pub fn turned(refusal: Refusal) -> Told
     ensures { λ r. ⌜ (told r ≡ refused (number refusal)) × (r .last ≡ 0) × (r .length ≡ 0) ⌝ }
 {
     Told {

@@ -1,42 +1,20 @@
 // The key program's text: a line per job, and how many are placed.
 ghost use mathlib.Core.Path.{_≡_};
-ghost use Prim.Native.Nat.{_+_, _≤_, _<_};
+ghost use Prim.Native.Nat.{_+_, _≤_, _<_, min};
 ghost use lib.ListN.{length, take};
 ghost use lib.Seq.{sets};
 ghost use Rattle.records.specs.Limits.{mostJobs};
-ghost use Rattle.text.specs.Lines.{line, rowsTo, Wrote};
+ghost use Rattle.writing.specs.Templates.{rowsTo, Wrote};
 ghost use Rattle.text.specs.Answers.{answered};
-ghost use Rattle.text.specs.Keys.{jobLine, tableText, lastLine, refusedText, keyOf, keyAnswer, KeyPromise};
+ghost use Rattle.text.specs.Keys.{jobLine, tableText, refusedText, keyOf, keyAnswer, KeyPromise};
 use crate::answer;
 use crate::answer::Answered;
-use crate::buffer;
 use configuration::setting::Setting;
 use records::job::Job;
 use records::refusal::Counted;
 
 // The size of a buffer that holds every key.
-pub const SIZE: usize = 512;
-
-// A line of five numbers.
-fn put_line(
-    output: &mut [u8],
-    at: usize,
-    id: u8,
-    level: u8,
-    policy: u8,
-    quantum: u8,
-    bound: u16,
-) -> usize
-    requires { ⌜ at + 55 ≤ length (now output) ⌝ }
-    ensures { λ r. ⌜ Wrote 55 (now (output .entry)) (now (output .exit)) at r (line id level policy quantum bound) ⌝ }
-{
-    let after_id = buffer::put_number(output, at, id as u32);
-    let after_level = buffer::put_spaced(output, after_id, level as u32);
-    let after_policy = buffer::put_spaced(output, after_level, policy as u32);
-    let after_quantum = buffer::put_spaced(output, after_policy, quantum as u32);
-    let after_bound = buffer::put_spaced(output, after_quantum, bound as u32);
-    buffer::put_byte(output, after_bound, b'\n')
-}
+pub const SIZE: usize = 940;
 
 // The line of the job at place k.
 fn put_job(
@@ -46,30 +24,39 @@ fn put_job(
     bounds: [u16; Job::MOST],
     k: usize,
 ) -> usize
-    requires { ⌜ (at + 55 ≤ length (now output)) × (k < mostJobs) ⌝ }
-    ensures { λ r. ⌜ Wrote 55 (now (output .entry)) (now (output .exit)) at r (jobLine settings bounds k) ⌝ }
+    requires { ⌜ (at + 100 ≤ length (now output)) × (k < mostJobs) ⌝ }
+    ensures { λ r. ⌜ Wrote 100 (now (output .entry)) (now (output .exit)) at r (jobLine settings bounds k) ⌝ }
 {
     let setting = settings[k];
-    put_line(
+    let level = setting.level as u32;
+    let policy = setting.policy as u32;
+    let quantum = setting.quantum as u32;
+    writing::put_template(
         output,
         at,
-        setting.id,
-        setting.level,
-        setting.policy,
-        setting.quantum,
-        bounds[k],
+        b"% % % % %\n",
+        [
+            setting.id as u32,
+            level,
+            policy,
+            quantum,
+            bounds[k] as u32,
+            0,
+            0,
+            0,
+        ],
     )
 }
 
 // The lines of n jobs, from the start of the output on.
-pub(crate) fn put_jobs(
+fn put_jobs(
     output: &mut [u8],
     settings: [Setting; Job::MOST],
     bounds: [u16; Job::MOST],
     n: usize,
 ) -> usize
-    requires { ⌜ (n ≤ mostJobs) × (440 ≤ length (now output)) ⌝ }
-    ensures { λ r. ⌜ Wrote 440 (now (output .entry)) (now (output .exit)) 0 r (rowsTo (jobLine settings bounds) n) ⌝ }
+    requires { ⌜ (n ≤ mostJobs) × (800 ≤ length (now output)) ⌝ }
+    ensures { λ r. ⌜ Wrote 800 (now (output .entry)) (now (output .exit)) 0 r (rowsTo (jobLine settings bounds) n) ⌝ }
 {
     let mut at = 0;
     let mut k = 0;
@@ -80,16 +67,17 @@ pub(crate) fn put_jobs(
     at
 }
 
-// How many are placed.
-fn put_last(output: &mut [u8], at: usize, placed: u32, n: usize) -> usize
-    requires { ⌜ (at + 32 ≤ length (now output)) × (n ≤ mostJobs) ⌝ }
-    ensures { λ r. ⌜ Wrote 32 (now (output .entry)) (now (output .exit)) at r (lastLine placed n) ⌝ }
+// The lines of the first n jobs with their settings and bounds, at the start of the output; it gives the text's length. No entry; for n
+// past 8 it takes all 8 settings.
+pub fn put_rows(
+    settings: [Setting; Job::MOST],
+    bounds: [u16; Job::MOST],
+    n: usize,
+    output: &mut [u8; SIZE],
+) -> usize
+    ensures { λ r. ⌜ (r ≤ length (now (output .exit))) × (r ≡ length (rowsTo (jobLine settings bounds) (min n mostJobs))) × (now (output .exit) ≡ sets (now (output .entry)) 0 (rowsTo (jobLine settings bounds) (min n mostJobs))) ⌝ }
 {
-    let after_word = buffer::put_text(output, at, b"placed ");
-    let after_placed = buffer::put_number(output, after_word, placed);
-    let after_of = buffer::put_text(output, after_placed, b" of ");
-    let after_n = buffer::put_number(output, after_of, n as u32);
-    buffer::put_byte(output, after_n, b'\n')
+    put_jobs(output, settings, bounds, Job::at_most(n))
 }
 
 // The key of n jobs.
@@ -100,21 +88,29 @@ fn put_key(
     placed: u32,
     n: usize,
 ) -> usize
-    requires { ⌜ (n ≤ mostJobs) × (472 ≤ length (now output)) ⌝ }
-    ensures { λ r. ⌜ Wrote 472 (now (output .entry)) (now (output .exit)) 0 r (tableText settings bounds placed n) ⌝ }
+    requires { ⌜ (n ≤ mostJobs) × (940 ≤ length (now output)) ⌝ }
+    ensures { λ r. ⌜ Wrote 940 (now (output .entry)) (now (output .exit)) 0 r (tableText settings bounds placed n) ⌝ }
 {
     let at = put_jobs(output, settings, bounds, n);
-    put_last(output, at, placed, n)
+    writing::put_template(
+        output,
+        at,
+        b"placed % of %\n",
+        [placed, n as u32, 0, 0, 0, 0, 0, 0],
+    )
 }
 
 // The line of a refused block.
 fn put_refused(output: &mut [u8], number: u8) -> usize
-    requires { ⌜ 19 ≤ length (now output) ⌝ }
-    ensures { λ r. ⌜ Wrote 19 (now (output .entry)) (now (output .exit)) 0 r (refusedText number) ⌝ }
+    requires { ⌜ 100 ≤ length (now output) ⌝ }
+    ensures { λ r. ⌜ Wrote 100 (now (output .entry)) (now (output .exit)) 0 r (refusedText number) ⌝ }
 {
-    let after_word = buffer::put_text(output, 0, b"refused ");
-    let after_number = buffer::put_number(output, after_word, number as u32);
-    buffer::put_byte(output, after_number, b'\n')
+    writing::put_template(
+        output,
+        0,
+        b"refused %\n",
+        [number as u32, 0, 0, 0, 0, 0, 0, 0],
+    )
 }
 
 // The line of a refused block, at the start of the output; it gives the text's length. No entry.

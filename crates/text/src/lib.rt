@@ -1,9 +1,4 @@
-// Texts: the key program's, job lists and configurations, what is printed of a marked hand-in, and what is said of faulty lines.
+// The key program's text, and what a function that writes a text answers beside it.
 pub mod answer;
-mod buffer;
-pub mod fault;
 pub mod key;
-pub mod marks;
 pub mod program;
-pub mod refusal;
-pub mod tables;

@@ -4,7 +4,7 @@ use lib.Dec.{eqb}
 use Rattle.records.specs.Refusals.{refused, given, number, refusalOf}
 use Rattle.records.specs.declared.refusal.Refusal.{Refusal}
 use Rattle.text.specs.Keys.{refusedText, tableText}
-use Rattle.text.proofs.Writing.{whole, retold}
+use Rattle.writing.proofs.Writing.{whole, retold}
 use Rattle.text.proofs.KeyText.{key-refused, answer-refused, answer-given, key-planned, key-few, key-text, key-promise}
 use borrow.Author.Needs.{needs}
 use Rattle.text.proofs.key.answer_key.Statement.{statement}

@@ -2,15 +2,15 @@ use Prim.Native.Nat.{ℕ, _*_, _-_, _≤_}
 use mathlib.Core.Path.{_≡_, refl, subst}
 use native.Mathlib.Omega.{arith}
 use lib.ListN.{length}
-use Rattle.text.specs.Lines.{rowsTo, Wrote}
+use Rattle.writing.specs.Templates.{rowsTo, Wrote}
 use Rattle.text.specs.Keys.{jobLine}
-use Rattle.text.proofs.Writing.{then, retold, widened, nothing, rows-next}
+use Rattle.writing.proofs.Writing.{then, retold, widened, nothing, rows-next}
 use borrow.Author.Needs.{needs}
 use Rattle.text.proofs.key.put_jobs.Statement.{statement}
 use Rattle.text.proofs.key.put_jobs.Tie as tie
 
 abbrev Inv-loop : tie.InvT-loop
-Inv-loop output₀ settings bounds n at₀ k₀ output at k = (k ≤ n) × (length output ≡ length output₀) × (at ≤ 55 * k) × Wrote (55 * k) output₀ output 0 at (rowsTo (jobLine settings bounds) k)
+Inv-loop output₀ settings bounds n at₀ k₀ output at k = (k ≤ n) × (length output ≡ length output₀) × (at ≤ 100 * k) × Wrote (100 * k) output₀ output 0 at (rowsTo (jobLine settings bounds) k)
 
 abbrev μ-loop : tie.MeasureT-loop
 μ-loop output₀ settings bounds n at₀ k₀ output at k = n - k
@@ -42,7 +42,7 @@ returns c =
     let l = c .before .loop in
     let a = c .before .before .before .args in
     let e : l .k ≡ a .n = omega arith in
-    widened 440 (subst (λ (j : ℕ). Wrote (55 * j) (a .output .now) (l .output) 0 (l .at) (rowsTo (jobLine (a .settings) (a .bounds)) j)) e (l .inv .3)) (omega arith)
+    widened 800 (subst (λ (j : ℕ). Wrote (100 * j) (a .output .now) (l .output) 0 (l .at) (rowsTo (jobLine (a .settings) (a .bounds)) j)) e (l .inv .3)) (omega arith)
 
 pub put-jobs-spec : {M : Type 1} → statement M
 put-jobs-spec =

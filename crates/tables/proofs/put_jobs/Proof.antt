@@ -1,0 +1,70 @@
+use Prim.Native.Nat.{ℕ, _*_, _-_, _≤_}
+use mathlib.Core.Path.{_≡_, refl, subst}
+use native.Mathlib.Omega.{arith}
+use lib.ListN.{length, take}
+use Rattle.records.specs.Records.{flat}
+use Rattle.records.specs.Jobs.{blankJob}
+use Rattle.lists.specs.Lists.{jobText}
+use Rattle.writing.specs.Templates.{Wrote}
+use Rattle.writing.proofs.Writing.{then, retold, widened, nothing, flat-next}
+use borrow.Author.Needs.{needs}
+use Rattle.tables.proofs.put_jobs.Statement.{statement}
+use Rattle.tables.proofs.put_jobs.Tie as tie
+
+abbrev Inv-loop : tie.InvT-loop
+Inv-loop output₀ n jobs at₀ k₀ output at k = (k ≤ n) × (length output ≡ length output₀) × (at ≤ 100 * k) × Wrote (100 * k) output₀ output 0 at (flat jobText (take k jobs))
+
+abbrev μ-loop : tie.MeasureT-loop
+μ-loop output₀ n jobs at₀ k₀ output at k = n - k
+
+loop-holds : tie.Need-loop-holds Inv-loop μ-loop
+unfolding flat
+loop-holds c = (search needs, refl, search needs, nothing _ _)
+
+mul-put-job : tie.Need-mul-put-job Inv-loop μ-loop
+mul-put-job c = search needs
+
+array-copy-out-put-job : tie.Need-array-copy-out-put-job Inv-loop μ-loop
+array-copy-out-put-job c = search needs
+
+put-job-requires : tie.Need-put-job-requires Inv-loop μ-loop
+put-job-requires c κs = search needs
+
+add-k : tie.Need-add-k Inv-loop μ-loop
+add-k c = search needs
+
+loop-less : tie.Need-loop-less Inv-loop μ-loop
+loop-less c = search needs
+
+loop-again : tie.Need-loop-again Inv-loop μ-loop
+loop-again c =
+    let put = c .before .before .put-job in
+    let l = c .before .before .before .before .before .before in
+    let a = l .before .before .args in
+    (search needs, search needs, omega (arith, put .ensures .next, put .ensures .short), widened _ (retold (then (l .loop .inv .3) (put .ensures)) (flat-next jobText (a .t2) (l .loop .k) blankJob (search needs))) (omega arith))
+
+same-length : tie.Need-same-length Inv-loop μ-loop
+same-length c = search needs
+
+returns : tie.Need-returns Inv-loop μ-loop
+returns c =
+    let l = c .before .loop in
+    let a = c .before .before .before .args in
+    let e : l .k ≡ a .n = omega arith in
+    widened 800 (subst (λ (j : ℕ). Wrote (100 * j) (a .output .now) (l .output) 0 (l .at) (flat jobText (take j (a .t2)))) e (l .inv .3)) (omega arith)
+
+pub put-jobs-spec : {M : Type 1} → statement M
+put-jobs-spec =
+    tie.close
+    (tie.spec
+    Inv-loop
+    μ-loop
+    loop-holds
+    mul-put-job
+    array-copy-out-put-job
+    put-job-requires
+    add-k
+    loop-less
+    loop-again
+    same-length
+    returns)

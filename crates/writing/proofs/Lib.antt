@@ -1,0 +1,2 @@
+pub mod Writing
+mod Lining
