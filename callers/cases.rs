@@ -36,6 +36,30 @@ extern "C" {
         bounds_length: usize,
     ) -> u32;
     fn ruzhtylen_same_bytes(a: *const u8, a_length: usize, b: *const u8, b_length: usize) -> u8;
+    fn ruzhtylen_to_kernel(
+        jobs: *const u8,
+        jobs_length: usize,
+        low: u8,
+        high: u8,
+        lowest: u8,
+        highest: u8,
+        configuration: *const u8,
+        configuration_length: usize,
+        output: *mut u8,
+        output_length: usize,
+    ) -> u32;
+    fn ruzhtylen_from_kernel(
+        jobs: *const u8,
+        jobs_length: usize,
+        low: u8,
+        high: u8,
+        lowest: u8,
+        highest: u8,
+        kernel: *const u8,
+        kernel_length: usize,
+        output: *mut u8,
+        output_length: usize,
+    ) -> u32;
 }
 
 /// One frame: an entry's or a refusal's number, then numbers and blocks.
@@ -68,6 +92,8 @@ const ENTRIES: &[Entry] = &[
     entry(6, 1, |frame| with_configuration(frame, ruzhtylen_mark)),
     entry(7, 2, plan),
     entry(8, 1, same_bytes),
+    entry(11, 0, |frame| with_priorities(frame, ruzhtylen_to_kernel)),
+    entry(12, 0, |frame| with_priorities(frame, ruzhtylen_from_kernel)),
 ];
 
 const fn entry(number: u8, numbers: usize, call: fn(Frame) -> Option<Answer>) -> Entry {
@@ -135,6 +161,31 @@ fn same_bytes(frame: Frame) -> Option<Answer> {
     let yes = unsafe { ruzhtylen_same_bytes(a.as_ptr(), a.len(), b.as_ptr(), b.len()) };
     let word = u32::from(yes) << 8;
     let outputs = Some(Vec::new());
+    Some(Answer { word, outputs })
+}
+
+/// An entry that is given a job block, a quantum range, two priorities and a block of records, and lent an output.
+type WithPriorities =
+    unsafe extern "C" fn(*const u8, usize, u8, u8, u8, u8, *const u8, usize, *mut u8, usize) -> u32;
+
+fn with_priorities(frame: Frame, call: WithPriorities) -> Option<Answer> {
+    let ([low, high, lowest, highest], [jobs, records, mut output]) = parts(frame)?;
+    // SAFETY: each pointer is that of a slice with the length beside it, and no two of the slices overlap.
+    let word = unsafe {
+        call(
+            jobs.as_ptr(),
+            jobs.len(),
+            low,
+            high,
+            lowest,
+            highest,
+            records.as_ptr(),
+            records.len(),
+            output.as_mut_ptr(),
+            output.len(),
+        )
+    };
+    let outputs = Some(vec![output]);
     Some(Answer { word, outputs })
 }
 

@@ -1,6 +1,7 @@
 /* Ruzhtylen's entries for callers in C: link target/staticlib/libcapi.a, which `rt staticlib capi` writes, or an installed libruzhtylen.a.
    A slice is a pointer and its length. Blocks are those of the scope document, two-byte numbers with the high byte first; the second
    byte of a job record is the job's delay.
+   low and high are the range of the quanta, from 1 to at most 64. lowest and highest are the priorities that the kernel has, any bytes.
    Any input gets an answer. Byte 0 of a 32-bit answer, its lowest, is the refusal's number, 0 for none; a refusal changes nothing lent.
    Bytes of an output past the need stay. With length 0 a pointer may be anything, null too.
    The proofs take it that a pointer has as many bytes as its length says, and that an output overlaps neither an input nor the other
@@ -16,7 +17,8 @@
 extern "C" {
 #endif
 
-/* Byte 0 of an answer: the first refusal that applies, or none. The scope document has them by number; 4 is met at the exam desk alone. */
+/* Byte 0 of an answer: the first refusal that applies, or none. They are sought in the order of their numbers, but that 13 comes after 6,
+   14 after 8, and 12 is the last; each through all records before the next. 4 is met at the exam desk alone. */
 enum ruzhtylen_refusal {
     RUZHTYLEN_ACCEPTED = 0,
     RUZHTYLEN_JOB_COUNT = 1,          /* the job block is empty, over 64 bytes or no multiple of 8 */
@@ -25,12 +27,15 @@ enum ruzhtylen_refusal {
     RUZHTYLEN_PLACE = 4,              /* there is no job at that place */
     RUZHTYLEN_JOB_TIMES = 5,          /* a cost is 0 or above its deadline or period, or a period or deadline is above 60000 */
     RUZHTYLEN_QUANTUM_RANGE = 6,      /* the lowest quantum is 0 or above the highest, or the highest is above 64 */
-    RUZHTYLEN_CONFIGURATION_SIZE = 7, /* the configuration block has not one record of four bytes for each job */
-    RUZHTYLEN_CONFIGURATION_IDS = 8,  /* its ids are not the jobs' ids in order */
-    RUZHTYLEN_RECORD_SHAPE = 9,       /* a level, a policy and a quantum that no record may have together */
-    RUZHTYLEN_LEVEL_SHARING = 10,     /* a policy 1 job shares its level, or a policy 2 job is alone on it */
+    RUZHTYLEN_CONFIGURATION_SIZE = 7, /* the configuration or kernel block has not one record of four bytes for each job */
+    RUZHTYLEN_CONFIGURATION_IDS = 8,  /* the ids of its records are not the jobs' ids in order */
+    RUZHTYLEN_RECORD_SHAPE = 9,       /* numbers that no record may have together; every kernel record of policy 0 */
+    RUZHTYLEN_LEVEL_SHARING = 10,     /* a policy 1 job shares its level or priority, or a policy 2 job is alone on it */
     RUZHTYLEN_NOT_PLACED = 11,        /* a job is not placed, where all have to be */
-    RUZHTYLEN_OUTPUT_LENGTH = 12      /* an output is shorter than what is to be written */
+    RUZHTYLEN_OUTPUT_LENGTH = 12,     /* an output is shorter than what is to be written */
+    RUZHTYLEN_PRIORITY_RANGE = 13,    /* the lowest priority is above the highest, or the two span fewer values than there are jobs */
+    RUZHTYLEN_KERNEL_PRIORITY = 14    /* a kernel record with a policy other than 0 whose priority is not among as many of the highest as
+                                         there are jobs */
 };
 
 /* Byte 1: the number of jobs. */
@@ -51,6 +56,20 @@ uint32_t ruzhtylen_mark(const uint8_t *jobs, size_t jobs_length, uint8_t low, ui
 uint32_t ruzhtylen_plan(const uint8_t *jobs, size_t jobs_length, uint8_t low, uint8_t high,
                         uint8_t *configuration, size_t configuration_length,
                         uint8_t *bounds, size_t bounds_length);
+
+/* Writes a full configuration as kernel records, four bytes for each job: id, policy, priority, quantum. Level 1 becomes the highest
+   priority, level 2 the one below it, and so on: a smaller level is a larger priority. Bounds are not asked: mark it first. */
+uint32_t ruzhtylen_to_kernel(const uint8_t *jobs, size_t jobs_length, uint8_t low, uint8_t high,
+                             uint8_t lowest, uint8_t highest,
+                             const uint8_t *configuration, size_t configuration_length,
+                             uint8_t *output, size_t output_length);
+
+/* The way back: writes kernel records as a configuration, four bytes for each job. With the same range and priorities each gives what the
+   other was given. */
+uint32_t ruzhtylen_from_kernel(const uint8_t *jobs, size_t jobs_length, uint8_t low, uint8_t high,
+                               uint8_t lowest, uint8_t highest,
+                               const uint8_t *kernel, size_t kernel_length,
+                               uint8_t *output, size_t output_length);
 
 /* 1: the same bytes, 0: not. It has no refusal. */
 uint8_t ruzhtylen_same_bytes(const uint8_t *a, size_t a_length, const uint8_t *b, size_t b_length);

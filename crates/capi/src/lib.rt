@@ -5,8 +5,9 @@ ghost use Rattle.records.specs.Jobs.{readJobs};
 ghost use Rattle.same_bytes.specs.Same.{sameBytes};
 ghost use Rattle.marker.specs.Marks.{boundsOutcome, markAnswer, markOutcome};
 ghost use Rattle.planner.specs.Plans.{planAnswer};
-ghost use Rattle.capi.specs.Promises.{WordPromise};
+ghost use Rattle.capi.specs.Promises.{WordPromise, ToKernelWord, FromKernelWord};
 ghost use Rattle.capi.specs.Words.{word, inWords, countValue, noValue, truthValue, planValue};
+use kernel::priority::KernelPriority;
 use marker::MarkAnswer;
 use planner::PlanAnswer;
 use records::refusal::Counted;
@@ -94,6 +95,54 @@ pub extern "C" fn ruzhtylen_plan(
     ensures { λ r. ⌜ WordPromise (now (jobs .entry)) low high (now (configuration .entry)) (now (bounds .entry)) r (now (configuration .exit), now (bounds .exit)) ⌝ }
 {
     plan_word(planner::plan(jobs, low, high, &mut *configuration, &mut *bounds))
+}
+
+// A configuration block as kernel records, in the output.
+#[no_mangle]
+pub extern "C" fn ruzhtylen_to_kernel(
+    jobs: &[u8],
+    low: u8,
+    high: u8,
+    lowest: u8,
+    highest: u8,
+    configuration: &[u8],
+    output: &mut [u8],
+) -> u32
+    ensures { λ r. ⌜ ToKernelWord (now (jobs .entry)) low high lowest highest (now (configuration .entry)) (now (output .entry)) r (now (output .exit)) ⌝ }
+{
+    verdict_word(kernel::to_kernel(
+        jobs,
+        low,
+        high,
+        KernelPriority(lowest),
+        KernelPriority(highest),
+        configuration,
+        &mut *output,
+    ))
+}
+
+// A kernel block as a configuration, in the output.
+#[no_mangle]
+pub extern "C" fn ruzhtylen_from_kernel(
+    jobs: &[u8],
+    low: u8,
+    high: u8,
+    lowest: u8,
+    highest: u8,
+    kernel: &[u8],
+    output: &mut [u8],
+) -> u32
+    ensures { λ r. ⌜ FromKernelWord (now (jobs .entry)) low high lowest highest (now (kernel .entry)) (now (output .entry)) r (now (output .exit)) ⌝ }
+{
+    verdict_word(kernel::from_kernel(
+        jobs,
+        low,
+        high,
+        KernelPriority(lowest),
+        KernelPriority(highest),
+        kernel,
+        &mut *output,
+    ))
 }
 
 // 1: the same bytes, 0: not.
