@@ -1,7 +1,7 @@
 // What the words of a command mean: the word for what is asked, the options, a range, and how a name is shown.
 ghost use mathlib.Core.Path.{_≡_};
 ghost use mathlib.Core.List.{map};
-ghost use Rattle.command.specs.Words.{wordOf, argumentOf, isOption, shownByte};
+ghost use Rattle.command.specs.Words.{otherWord, wordOf, isOption, otherArgument, argumentOf, shownByte};
 use same_bytes::same_bytes;
 
 pub mod span;
@@ -11,6 +11,7 @@ pub enum Word {
     Key,
     Mark,
     Bounds,
+    Loader,
     Block,
     Text,
     Install,
@@ -21,32 +22,20 @@ pub enum Word {
 // What an argument after the word is: an option, the end of the options, or a name.
 pub enum Argument {
     Quanta,
+    Priorities,
     Blocks,
     Configuration,
+    Back,
+    Bytes,
     End,
     UnknownOption,
     Name,
 }
 
-// The word for what is asked. No entry.
-pub fn word_of(argument: &[u8]) -> Word
-    ensures { λ r. ⌜ r ≡ wordOf (now (argument .entry)) ⌝ }
+// The words that ask for no answer about a list.
+fn other_word(argument: &[u8]) -> Word
+    ensures { λ r. ⌜ r ≡ otherWord (now (argument .entry)) ⌝ }
 {
-    if same_bytes(argument, b"key") {
-        return Word::Key;
-    }
-    if same_bytes(argument, b"mark") {
-        return Word::Mark;
-    }
-    if same_bytes(argument, b"bounds") {
-        return Word::Bounds;
-    }
-    if same_bytes(argument, b"block") {
-        return Word::Block;
-    }
-    if same_bytes(argument, b"text") {
-        return Word::Text;
-    }
     if same_bytes(argument, b"install") {
         return Word::Install;
     }
@@ -62,6 +51,31 @@ pub fn word_of(argument: &[u8]) -> Word
     Word::Unknown
 }
 
+// The word for what is asked. No entry.
+pub fn word_of(argument: &[u8]) -> Word
+    ensures { λ r. ⌜ r ≡ wordOf (now (argument .entry)) ⌝ }
+{
+    if same_bytes(argument, b"key") {
+        return Word::Key;
+    }
+    if same_bytes(argument, b"mark") {
+        return Word::Mark;
+    }
+    if same_bytes(argument, b"bounds") {
+        return Word::Bounds;
+    }
+    if same_bytes(argument, b"loader") {
+        return Word::Loader;
+    }
+    if same_bytes(argument, b"block") {
+        return Word::Block;
+    }
+    if same_bytes(argument, b"text") {
+        return Word::Text;
+    }
+    other_word(argument)
+}
+
 // Whether an argument begins with two hyphens, as options do.
 fn is_option(argument: &[u8]) -> bool
     ensures { λ r. ⌜ r ≡ isOption (now (argument .entry)) ⌝ }
@@ -75,19 +89,10 @@ fn is_option(argument: &[u8]) -> bool
     argument[1] == b'-'
 }
 
-// What an argument after the word is. No entry.
-pub fn argument_of(argument: &[u8]) -> Argument
-    ensures { λ r. ⌜ r ≡ argumentOf (now (argument .entry)) ⌝ }
+// What an argument is that is no option that there is.
+fn other_argument(argument: &[u8]) -> Argument
+    ensures { λ r. ⌜ r ≡ otherArgument (now (argument .entry)) ⌝ }
 {
-    if same_bytes(argument, b"--quanta") {
-        return Argument::Quanta;
-    }
-    if same_bytes(argument, b"--block") {
-        return Argument::Blocks;
-    }
-    if same_bytes(argument, b"--configuration") {
-        return Argument::Configuration;
-    }
     if same_bytes(argument, b"--") {
         return Argument::End;
     }
@@ -95,6 +100,31 @@ pub fn argument_of(argument: &[u8]) -> Argument
         return Argument::UnknownOption;
     }
     Argument::Name
+}
+
+// What an argument after the word is. No entry.
+pub fn argument_of(argument: &[u8]) -> Argument
+    ensures { λ r. ⌜ r ≡ argumentOf (now (argument .entry)) ⌝ }
+{
+    if same_bytes(argument, b"--quanta") {
+        return Argument::Quanta;
+    }
+    if same_bytes(argument, b"--priorities") {
+        return Argument::Priorities;
+    }
+    if same_bytes(argument, b"--block") {
+        return Argument::Blocks;
+    }
+    if same_bytes(argument, b"--configuration") {
+        return Argument::Configuration;
+    }
+    if same_bytes(argument, b"--back") {
+        return Argument::Back;
+    }
+    if same_bytes(argument, b"--bytes") {
+        return Argument::Bytes;
+    }
+    other_argument(argument)
 }
 
 // A byte of a name as it is shown: a control byte is a question mark, so that a name stays on its line.

@@ -1,13 +1,13 @@
-// Ranges: one as a word, two numbers with a hyphen between, and which one a call has.
+// Ranges of quanta or of priorities: one as a word, two numbers with a hyphen between; and which range of quanta a call has.
 ghost use mathlib.Core.Path.{_≡_};
 ghost use Rattle.command.specs.Words.{pairOf, spanOf, chosen};
 use lists::words;
 use lists::words::Mark;
 use lists::words::WordAnswer;
 
-// The lowest and the highest quantum, or that the word is no range.
+// The lowest and the highest number, or that the word is no range.
 pub enum Span {
-    Quanta(u8, u8),
+    Between(u8, u8),
     Wrong,
 }
 
@@ -20,7 +20,7 @@ fn span_of(low: WordAnswer, high: WordAnswer) -> Span
     let WordAnswer::Number(highest) = high else {
         return Span::Wrong;
     };
-    Span::Quanta((lowest % 256) as u8, (highest % 256) as u8)
+    Span::Between((lowest % 256) as u8, (highest % 256) as u8)
 }
 
 // Reads a range. No entry; it judges no more than that each number fits a byte.
@@ -34,8 +34,8 @@ pub fn read_span(word: &[u8]) -> Span
     if word.len() <= hyphen + 1 {
         return Span::Wrong;
     }
-    let low = words::read_number(&word[..hyphen], 1, 64, 255);
-    let high = words::read_number(&word[hyphen + 1..], 2, 64, 255);
+    let low = words::read_number(&word[..hyphen], 1, 255, 255);
+    let high = words::read_number(&word[hyphen + 1..], 2, 255, 255);
     span_of(low, high)
 }
 

@@ -5,17 +5,23 @@ use command::span::Span;
 use libc::STDERR_FILENO;
 
 // The options and the names. What is wrong has been said where it is faulty. The first and the second name are the arguments of these
-// numbers; `inputs` counts those that are standard input; `awaits` is set before the range that follows its option, and `ended` after the
-// end of the options.
+// numbers; `inputs` counts those that are standard input; `awaits` is set before the numbers that follow an option, `of_priorities` where
+// these are priorities and no quanta, and `ended` after the end of the options.
 pub struct Asked {
     pub faulty: bool,
     pub awaits: bool,
+    pub of_priorities: bool,
     pub ended: bool,
     pub ranged: bool,
     pub low: u8,
     pub high: u8,
+    pub prioritised: bool,
+    pub lowest: u8,
+    pub highest: u8,
     pub blocks: bool,
     pub configuration: bool,
+    pub back: bool,
+    pub bytes: bool,
     pub names: u32,
     pub first: usize,
     pub second: usize,
@@ -29,12 +35,18 @@ pub fn nothing() -> Asked {
     Asked {
         faulty: false,
         awaits: false,
+        of_priorities: false,
         ended: false,
         ranged: false,
         low: 1,
         high: 4,
+        prioritised: false,
+        lowest: 0,
+        highest: 0,
         blocks: false,
         configuration: false,
+        back: false,
+        bytes: false,
         names: 0,
         first: 0,
         second: 0,
@@ -57,7 +69,7 @@ fn with_range(asked: Asked, word: &[u8]) -> Asked {
     next.awaits = false;
     let span = command::span::read_span(word);
     match span {
-        Span::Quanta(low, high) => {
+        Span::Between(low, high) => {
             next.ranged = true;
             next.low = low;
             next.high = high;
@@ -66,6 +78,24 @@ fn with_range(asked: Asked, word: &[u8]) -> Asked {
         Span::Wrong => with_fault(
             next,
             b"--quanta takes the lowest and the highest quantum, up to 64, with a hyphen between, as 1-4\n",
+        ),
+    }
+}
+
+fn with_priorities(asked: Asked, word: &[u8]) -> Asked {
+    let mut next = asked;
+    next.awaits = false;
+    let span = command::span::read_span(word);
+    match span {
+        Span::Between(lowest, highest) => {
+            next.prioritised = true;
+            next.lowest = lowest;
+            next.highest = highest;
+            next
+        }
+        Span::Wrong => with_fault(
+            next,
+            b"--priorities takes the kernel's lowest and highest priority, up to 255, with a hyphen between, as 1-99\n",
         ),
     }
 }
@@ -93,22 +123,42 @@ fn with_name(asked: Asked, i: usize, word: &[u8]) -> Asked {
     next
 }
 
+// Before the numbers of an option.
+fn awaiting(asked: Asked, of_priorities: bool) -> Asked {
+    let mut next = asked;
+    if of_priorities {
+        if next.prioritised {
+            return with_fault(next, b"--priorities is given twice\n");
+        }
+    } else {
+        if next.ranged {
+            return with_fault(next, b"--quanta is given twice\n");
+        }
+    }
+    next.awaits = true;
+    next.of_priorities = of_priorities;
+    next
+}
+
 fn with_option(asked: Asked, argument: Argument) -> Asked {
     let mut next = asked;
     match argument {
-        Argument::Quanta => {
-            if next.ranged {
-                return with_fault(next, b"--quanta is given twice\n");
-            }
-            next.awaits = true;
-            next
-        }
+        Argument::Quanta => awaiting(next, false),
+        Argument::Priorities => awaiting(next, true),
         Argument::Blocks => {
             next.blocks = true;
             next
         }
         Argument::Configuration => {
             next.configuration = true;
+            next
+        }
+        Argument::Back => {
+            next.back = true;
+            next
+        }
+        Argument::Bytes => {
+            next.bytes = true;
             next
         }
         Argument::End => {
@@ -136,8 +186,11 @@ fn with_unknown(asked: Asked, i: usize) -> Asked {
 fn is_unknown(argument: Argument) -> bool {
     match argument {
         Argument::Quanta => false,
+        Argument::Priorities => false,
         Argument::Blocks => false,
         Argument::Configuration => false,
+        Argument::Back => false,
+        Argument::Bytes => false,
         Argument::End => false,
         Argument::UnknownOption => true,
         Argument::Name => false,
@@ -147,8 +200,11 @@ fn is_unknown(argument: Argument) -> bool {
 fn is_name(argument: Argument) -> bool {
     match argument {
         Argument::Quanta => false,
+        Argument::Priorities => false,
         Argument::Blocks => false,
         Argument::Configuration => false,
+        Argument::Back => false,
+        Argument::Bytes => false,
         Argument::End => false,
         Argument::UnknownOption => false,
         Argument::Name => true,
@@ -157,6 +213,9 @@ fn is_name(argument: Argument) -> bool {
 
 fn with_word(asked: Asked, i: usize, word: &[u8]) -> Asked {
     if asked.awaits {
+        if asked.of_priorities {
+            return with_priorities(asked, word);
+        }
         return with_range(asked, word);
     }
     if asked.ended {
@@ -188,6 +247,14 @@ pub fn count() -> usize {
     if count < MOST { count } else { MOST }
 }
 
+// That the numbers of an option are missing.
+fn with_missing(asked: Asked) -> Asked {
+    if asked.of_priorities {
+        return with_fault(asked, b"--priorities needs a range after it, as 1-99\n");
+    }
+    with_fault(asked, b"--quanta needs a range after it, as 1-4\n")
+}
+
 // What all arguments after the word ask for.
 pub fn read() -> Asked {
     let count = count();
@@ -199,7 +266,7 @@ pub fn read() -> Asked {
         i += 1;
     }
     if asked.awaits {
-        return with_fault(asked, b"--quanta needs a range after it, as 1-4\n");
+        return with_missing(asked);
     }
     if 1 < asked.inputs {
         return with_fault(asked, b"standard input can be read only once\n");

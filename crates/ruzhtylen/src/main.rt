@@ -2,8 +2,8 @@
 // standard error, and the status, a digit, to descriptor 3.
 mod asked;
 mod files;
-mod help;
-mod marking;
+mod hand_ins;
+mod loading;
 mod quanta;
 mod refused;
 mod say;
@@ -23,6 +23,17 @@ fn wrong(text: &[u8]) -> u8 {
     say::NOT_ANSWERED
 }
 
+// Whether an option of the loader is given.
+fn has_loader_option(asked: Asked) -> bool {
+    if asked.prioritised {
+        return true;
+    }
+    if asked.back {
+        return true;
+    }
+    asked.bytes
+}
+
 fn key(asked: Asked) -> u8 {
     if asked.configuration {
         return wrong(b"--configuration is an option of block and text\n");
@@ -40,7 +51,7 @@ fn mark(asked: Asked) -> u8 {
     if asked.names < 2 {
         return wrong(b"mark takes a LIST and a HAND-IN or more; 'ruzhtylen help mark' says more\n");
     }
-    marking::mark(asked)
+    hand_ins::mark(asked)
 }
 
 fn bounds(asked: Asked) -> u8 {
@@ -55,12 +66,29 @@ fn bounds(asked: Asked) -> u8 {
     words::bounds(asked)
 }
 
+fn loader(asked: Asked) -> u8 {
+    if asked.configuration {
+        return wrong(b"--configuration is an option of block and text\n");
+    }
+    if asked.names != 2 {
+        return wrong(
+            b"loader takes a LIST and a CONFIGURATION, or with --back a LIST and RECORDS; 'ruzhtylen help loader' says more\n",
+        );
+    }
+    if !asked.prioritised {
+        return wrong(
+            b"loader needs --priorities LOWEST-HIGHEST, those that the kernel has, as 1-99\n",
+        );
+    }
+    loading::loader(asked)
+}
+
 fn change_form(asked: Asked, to_block: bool) -> u8 {
     if asked.ranged {
-        return wrong(b"--quanta is an option of key, mark and bounds\n");
+        return wrong(b"--quanta is an option of key, mark, bounds and loader\n");
     }
     if asked.blocks {
-        return wrong(b"--block is an option of key, mark and bounds\n");
+        return wrong(b"--block is an option of key, mark, bounds and loader\n");
     }
     if asked.names != 1 {
         return wrong(b"block and text take one FILE; 'ruzhtylen help' says more\n");
@@ -91,6 +119,7 @@ fn is_unknown(word: Word) -> bool {
         Word::Key => false,
         Word::Mark => false,
         Word::Bounds => false,
+        Word::Loader => false,
         Word::Block => false,
         Word::Text => false,
         Word::Install => false,
@@ -131,15 +160,35 @@ fn install() -> u8 {
     wrong(b"install is a word of the command in a clone: ./ruzhtylen install PREFIX\n")
 }
 
+fn is_loader(word: Word) -> bool {
+    match word {
+        Word::Key => false,
+        Word::Mark => false,
+        Word::Bounds => false,
+        Word::Loader => true,
+        Word::Block => false,
+        Word::Text => false,
+        Word::Install => false,
+        Word::Help => false,
+        Word::Unknown => false,
+    }
+}
+
 // Answers a word with its arguments, and gives the status.
 fn answer(word: Word, asked: Asked) -> u8 {
     if asked.faulty {
         return say::NOT_ANSWERED;
     }
+    if has_loader_option(asked) {
+        if !is_loader(word) {
+            return wrong(b"--priorities, --back and --bytes are options of loader\n");
+        }
+    }
     match word {
         Word::Key => key(asked),
         Word::Mark => mark(asked),
         Word::Bounds => bounds(asked),
+        Word::Loader => loader(asked),
         Word::Block => change_form(asked, true),
         Word::Text => change_form(asked, false),
         Word::Install => install(),
@@ -154,6 +203,7 @@ fn takes_files(word: Word) -> bool {
         Word::Key => true,
         Word::Mark => true,
         Word::Bounds => true,
+        Word::Loader => true,
         Word::Block => true,
         Word::Text => true,
         Word::Install => false,

@@ -3,11 +3,12 @@ use crate::say;
 use crate::slices;
 use crate::source::Source;
 use command::span::Quanta;
+use kernel::priority::KernelPriority;
 use reasons::reason::Reason;
 use records::job::Job;
 use records::refusal::Counted;
 
-// A range that an option gave is no file's.
+// A range that an option gave is no file's, and priorities are always an option's.
 fn say_about(i: usize, optioned: bool, number: u8, text: &[u8]) {
     if optioned {
         if number == 6 {
@@ -16,6 +17,11 @@ fn say_about(i: usize, optioned: bool, number: u8, text: &[u8]) {
             return;
         }
     }
+    if number == 13 {
+        say::message(b"--priorities: ");
+        say::message(text);
+        return;
+    }
     say::about(i, text);
 }
 
@@ -23,8 +29,8 @@ fn say_about(i: usize, optioned: bool, number: u8, text: &[u8]) {
 fn say_refusal(i: usize, number: u8, optioned: bool, source: Source, reason: Reason) -> u8 {
     let naming = source.naming;
     let lines = source.lines;
-    let mut output = [0u8; text::refusal::SIZE];
-    let length = text::refusal::put_refusal(number, naming, lines, reason, &mut output);
+    let mut output = [0u8; messages::refusal::SIZE];
+    let length = messages::refusal::put_refusal(number, naming, lines, reason, &mut output);
     say_about(i, optioned, number, &output[..length]);
     say::NOT_ANSWERED
 }
@@ -64,6 +70,47 @@ pub fn refuse_hand_in(i: usize, hand_in: Source, list: Source, quanta: Quanta, n
         range,
     );
     say_refusal(i, number, false, hand_in, reason)
+}
+
+// Says why kernel records are refused for a list, a range and priorities that are accepted; the records are argument i.
+pub fn refuse_kernels(
+    i: usize,
+    loaded: Source,
+    list: Source,
+    quanta: Quanta,
+    highest: KernelPriority,
+    number: u8,
+) -> u8 {
+    let jobs = list.bytes;
+    let jobs_kept = slices::within(list.kept, &jobs);
+    let bytes = loaded.bytes;
+    let kept = slices::within(loaded.kept, &bytes);
+    let call = records::call::read_call(&jobs[..jobs_kept], quanta.low, quanta.high);
+    let kernels = kernel::block::read_unjudged(&bytes[..kept]);
+    let table = call.table;
+    let range = call.range;
+    let reason = reasons::kernels::kernel_reason(
+        number,
+        loaded.size,
+        table,
+        kernels,
+        jobs_kept / Job::SIZE,
+        range,
+        highest,
+    );
+    say_refusal(i, number, false, loaded, reason)
+}
+
+// Says why the priorities are refused for n jobs, those of a list.
+pub fn refuse_priorities(
+    list: Source,
+    n: usize,
+    lowest: KernelPriority,
+    highest: KernelPriority,
+    number: u8,
+) -> u8 {
+    let reason = reasons::kernels::priorities_reason(number, n, lowest, highest);
+    say_refusal(0, number, true, list, reason)
 }
 
 // Whether a list, which is argument i, or its range is refused; then why is said.

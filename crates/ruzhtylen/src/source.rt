@@ -1,5 +1,5 @@
-// A list or a configuration as it was handed in: its block, and how its records are named. A block is taken as it is; a text is read, and
-// its block is not judged.
+// A list, a configuration or kernel records as they were handed in: their block, and how the records are named. A block is taken as it is; a
+// text is read, and its block is not judged.
 ghost use Prim.Native.Nat.{_≤_};
 use crate::files;
 use crate::say;
@@ -7,8 +7,8 @@ use crate::slices;
 use lists::fault::Fault;
 use lists::fields::Form;
 use lists::rows::RowsAnswer;
+use messages::refusal::Naming;
 use records::job::Job;
-use text::refusal::Naming;
 
 // A byte more than the longest block, so that a longer one shows.
 pub const SIZE: usize = 65;
@@ -86,8 +86,8 @@ fn line_numbers(at: [usize; Job::MOST]) -> [u32; Job::MOST] {
 }
 
 fn say_fault(i: usize, line: usize, fault: Fault) {
-    let mut output = [0u8; text::fault::SIZE];
-    let length = text::fault::put_fault((line % 4294967296) as u32, fault, &mut output);
+    let mut output = [0u8; messages::fault::SIZE];
+    let length = messages::fault::put_fault((line % 4294967296) as u32, fault, &mut output);
     say::about(i, &output[..length]);
 }
 
@@ -114,7 +114,7 @@ fn of_text(i: usize, form: Form, content: &[u8]) -> Source {
     }
 }
 
-// The list or the configuration in the file that is argument i.
+// The list, the configuration or the kernel records in the file that is argument i.
 pub fn load(i: usize, form: Form, is_block: bool) -> Source {
     let mut content = files::room();
     let got = files::read(i, &mut content);

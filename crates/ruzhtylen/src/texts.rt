@@ -31,8 +31,17 @@ fn list_text(i: usize, list: Source) -> u8 {
     let bytes = list.bytes;
     let kept = slices::within(list.kept, &bytes);
     let jobs = records::block::read_unjudged(&bytes[..kept]);
-    let mut output = [0u8; text::tables::LIST_SIZE];
-    let length = text::tables::put_list(jobs, kept / Job::SIZE, &mut output);
+    let mut output = [0u8; tables::LIST_SIZE];
+    let length = tables::put_list(jobs, kept / Job::SIZE, &mut output);
+    say::answer(say::YES, &output[..length])
+}
+
+// Prints the settings of a block, a line each.
+pub fn print_settings(block: &[u8]) -> u8 {
+    let settings = configuration::block::read_unjudged(block);
+    let mut output = [0u8; tables::CONFIGURATION_SIZE];
+    let n = block.len() / Setting::SIZE;
+    let length = tables::put_configuration(settings, n, &mut output);
     say::answer(say::YES, &output[..length])
 }
 
@@ -43,10 +52,7 @@ fn configuration_text(i: usize, source: Source) -> u8 {
     }
     let bytes = source.bytes;
     let kept = slices::within(source.kept, &bytes);
-    let settings = configuration::block::read_unjudged(&bytes[..kept]);
-    let mut output = [0u8; text::tables::CONFIGURATION_SIZE];
-    let length = text::tables::put_configuration(settings, kept / Setting::SIZE, &mut output);
-    say::answer(say::YES, &output[..length])
+    print_settings(&bytes[..kept])
 }
 
 pub fn text(asked: Asked) -> u8 {

@@ -39,7 +39,7 @@ fn bounds_of(i: usize, list: Source, quanta: Quanta, hand_in: Source) -> u8 {
     let bytes = hand_in.bytes;
     let kept = slices::within(hand_in.kept, &bytes);
     let mut output = [0u8; text::key::SIZE];
-    let told = text::marks::bounds(
+    let told = marking::bounds(
         &jobs[..jobs_kept],
         quanta.low,
         quanta.high,

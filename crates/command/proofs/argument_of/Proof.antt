@@ -44,16 +44,32 @@ returns-4 : tie.Need-returns-4
 unfolding argumentOf
 returns-4 c = simp (sym (c .before .before .before .before .before .before .before .before .before .before .same-bytes .ensures) ∙ c .before .before .before .before .before .before .before .before .before .if1 .left, sym (c .before .before .before .before .before .before .before .same-bytes2 .ensures) ∙ c .before .before .before .before .before .before .if2 .left, sym (c .before .before .before .before .same-bytes3 .ensures) ∙ c .before .before .before .if3 .left, sym (c .before .same-bytes4 .ensures) ∙ c .if4 .taken)
 
-is-option-requires : tie.Need-is-option-requires
-is-option-requires c κs = search needs
+slice-aggregate-same-bytes-5 : tie.Need-slice-aggregate-same-bytes-5
+slice-aggregate-same-bytes-5 c = search needs
+
+same-bytes-requires-5 : tie.Need-same-bytes-requires-5
+same-bytes-requires-5 c κs = search needs
 
 returns-5 : tie.Need-returns-5
 unfolding argumentOf
-returns-5 c = simp (sym (c .before .before .before .before .before .before .before .before .before .before .before .before .same-bytes .ensures) ∙ c .before .before .before .before .before .before .before .before .before .before .before .if1 .left, sym (c .before .before .before .before .before .before .before .before .before .same-bytes2 .ensures) ∙ c .before .before .before .before .before .before .before .before .if2 .left, sym (c .before .before .before .before .before .before .same-bytes3 .ensures) ∙ c .before .before .before .before .before .if3 .left, sym (c .before .before .before .same-bytes4 .ensures) ∙ c .before .before .if4 .left, sym (c .before .is-option .ensures) ∙ c .if5 .taken)
+returns-5 c = simp (sym (c .before .before .before .before .before .before .before .before .before .before .before .before .before .same-bytes .ensures) ∙ c .before .before .before .before .before .before .before .before .before .before .before .before .if1 .left, sym (c .before .before .before .before .before .before .before .before .before .before .same-bytes2 .ensures) ∙ c .before .before .before .before .before .before .before .before .before .if2 .left, sym (c .before .before .before .before .before .before .before .same-bytes3 .ensures) ∙ c .before .before .before .before .before .before .if3 .left, sym (c .before .before .before .before .same-bytes4 .ensures) ∙ c .before .before .before .if4 .left, sym (c .before .same-bytes5 .ensures) ∙ c .if5 .taken)
+
+slice-aggregate-same-bytes-6 : tie.Need-slice-aggregate-same-bytes-6
+slice-aggregate-same-bytes-6 c = search needs
+
+same-bytes-requires-6 : tie.Need-same-bytes-requires-6
+same-bytes-requires-6 c κs = search needs
 
 returns-6 : tie.Need-returns-6
 unfolding argumentOf
-returns-6 c = simp (sym (c .before .before .before .before .before .before .before .before .before .before .before .before .same-bytes .ensures) ∙ c .before .before .before .before .before .before .before .before .before .before .before .if1 .left, sym (c .before .before .before .before .before .before .before .before .before .same-bytes2 .ensures) ∙ c .before .before .before .before .before .before .before .before .if2 .left, sym (c .before .before .before .before .before .before .same-bytes3 .ensures) ∙ c .before .before .before .before .before .if3 .left, sym (c .before .before .before .same-bytes4 .ensures) ∙ c .before .before .if4 .left, sym (c .before .is-option .ensures) ∙ c .if5 .left)
+returns-6 c = simp (sym (c .before .before .before .before .before .before .before .before .before .before .before .before .before .before .before .before .same-bytes .ensures) ∙ c .before .before .before .before .before .before .before .before .before .before .before .before .before .before .before .if1 .left, sym (c .before .before .before .before .before .before .before .before .before .before .before .before .before .same-bytes2 .ensures) ∙ c .before .before .before .before .before .before .before .before .before .before .before .before .if2 .left, sym (c .before .before .before .before .before .before .before .before .before .before .same-bytes3 .ensures) ∙ c .before .before .before .before .before .before .before .before .before .if3 .left, sym (c .before .before .before .before .before .before .before .same-bytes4 .ensures) ∙ c .before .before .before .before .before .before .if4 .left, sym (c .before .before .before .before .same-bytes5 .ensures) ∙ c .before .before .before .if5 .left, sym (c .before .same-bytes6 .ensures) ∙ c .if6 .taken)
+
+other-argument-requires : tie.Need-other-argument-requires
+other-argument-requires c κs = search needs
+
+returns-7 : tie.Need-returns-7
+unfolding argumentOf
+returns-7 c = c .other-argument .ensures ∙ sym (simp (sym (c .before .before .before .before .before .before .before .before .before .before .before .before .before .before .before .before .before .same-bytes .ensures) ∙ c .before .before .before .before .before .before .before .before .before .before .before .before .before .before .before .before .if1 .left, sym (c .before .before .before .before .before .before .before .before .before .before .before .before .before .before .same-bytes2 .ensures) ∙ c .before .before .before .before .before .before .before .before .before .before .before .before .before .if2 .left, sym (c .before .before .before .before .before .before .before .before .before .before .before .same-bytes3 .ensures) ∙ c .before .before .before .before .before .before .before .before .before .before .if3 .left, sym (c .before .before .before .before .before .before .before .before .same-bytes4 .ensures) ∙ c .before .before .before .before .before .before .before .if4 .left, sym (c .before .before .before .before .before .same-bytes5 .ensures) ∙ c .before .before .before .before .if5 .left, sym (c .before .before .same-bytes6 .ensures) ∙ c .before .if6 .left))
 
 pub argument-of-spec : {M : Type 1} → statement M
 argument-of-spec =
@@ -71,6 +87,11 @@ argument-of-spec =
     slice-aggregate-same-bytes-4
     same-bytes-requires-4
     returns-4
-    is-option-requires
+    slice-aggregate-same-bytes-5
+    same-bytes-requires-5
     returns-5
-    returns-6)
+    slice-aggregate-same-bytes-6
+    same-bytes-requires-6
+    returns-6
+    other-argument-requires
+    returns-7)

@@ -77,8 +77,8 @@ returns-3 c =
     let rest = drop (f .find .result + 1) (word f) in
     let all : take (length (word f) - (f .find .result + 1)) rest ≡ rest = take-all (length (word f) - (f .find .result + 1)) rest (omega (arith, length-drop (f .find .result + 1) (word f))) in
     c .span-of .ensures
-    ∙ ap₂ pairOf (low .read-number .ensures) (high .read-number2 .ensures ∙ ap (numberOf 2 64 255) all)
-    ∙ ap (λ (k : ℕ). pairOf (numberOf 1 64 255 (take k (word f))) (numberOf 2 64 255 (drop (k + 1) (word f)))) (sym (found f))
+    ∙ ap₂ pairOf (low .read-number .ensures) (high .read-number2 .ensures ∙ ap (numberOf 2 255 255) all)
+    ∙ ap (λ (k : ℕ). pairOf (numberOf 1 255 255 (take k (word f))) (numberOf 2 255 255 (drop (k + 1) (word f)))) (sym (found f))
     ∙ simp (ne-eqb _ _ (λ e. i .before .if1 .left (sym (found f) ∙ e)), lt-leb _ _ long)
 
 pub read-span-spec : {M : Type 1} → statement M

@@ -4,10 +4,10 @@ use Rattle.ruzhtylen.proofs.asked.read.Statement.{statement}
 use Rattle.ruzhtylen.proofs.asked.read.Tie as tie
 
 abbrev Inv-loop : tie.InvT-loop
-Inv-loop count asked₀ i₀ t5 t6 asked i = Unit {0}
+Inv-loop count asked₀ i₀ t5 asked i = Unit {0}
 
 abbrev μ-loop : tie.MeasureT-loop
-μ-loop count asked₀ i₀ t5 t6 asked i = count - i
+μ-loop count asked₀ i₀ t5 asked i = count - i
 
 count-requires : tie.Need-count-requires Inv-loop μ-loop
 count-requires c κs = search needs
@@ -30,20 +30,17 @@ loop-less c = search needs
 loop-again : tie.Need-loop-again Inv-loop μ-loop
 loop-again c = tt
 
+with-missing-requires : tie.Need-with-missing-requires Inv-loop μ-loop
+with-missing-requires c κs = search needs
+
+returns : tie.Need-returns Inv-loop μ-loop
+returns c = search needs
+
 slice-aggregate-with-fault : tie.Need-slice-aggregate-with-fault Inv-loop μ-loop
 slice-aggregate-with-fault c = search needs
 
 with-fault-requires : tie.Need-with-fault-requires Inv-loop μ-loop
 with-fault-requires c κs = search needs
-
-returns : tie.Need-returns Inv-loop μ-loop
-returns c = search needs
-
-slice-aggregate-with-fault-2 : tie.Need-slice-aggregate-with-fault-2 Inv-loop μ-loop
-slice-aggregate-with-fault-2 c = search needs
-
-with-fault-requires-2 : tie.Need-with-fault-requires-2 Inv-loop μ-loop
-with-fault-requires-2 c κs = search needs
 
 returns-2 : tie.Need-returns-2 Inv-loop μ-loop
 returns-2 c = search needs
@@ -64,10 +61,9 @@ read-spec =
     add-i
     loop-less
     loop-again
+    with-missing-requires
+    returns
     slice-aggregate-with-fault
     with-fault-requires
-    returns
-    slice-aggregate-with-fault-2
-    with-fault-requires-2
     returns-2
     returns-3)

@@ -34,8 +34,8 @@ fn mark_source(i: usize, alone: bool, list: Source, quanta: Quanta, hand_in: Sou
     let jobs_kept = slices::within(list.kept, &jobs);
     let bytes = hand_in.bytes;
     let kept = slices::within(hand_in.kept, &bytes);
-    let mut output = [0u8; text::marks::SIZE];
-    let told = text::marks::marks(
+    let mut output = [0u8; marking::SIZE];
+    let told = marking::marks(
         &jobs[..jobs_kept],
         quanta.low,
         quanta.high,

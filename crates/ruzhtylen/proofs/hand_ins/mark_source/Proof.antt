@@ -1,8 +1,8 @@
 use mathlib.Core.Path.{sym}
 use lib.Seq.{length-take-le}
 use borrow.Author.Needs.{needs}
-use Rattle.ruzhtylen.proofs.marking.mark_source.Statement.{statement}
-use Rattle.ruzhtylen.proofs.marking.mark_source.Tie as tie
+use Rattle.ruzhtylen.proofs.hand_ins.mark_source.Statement.{statement}
+use Rattle.ruzhtylen.proofs.hand_ins.mark_source.Tie as tie
 
 slice-aggregate-within : tie.Need-slice-aggregate-within
 slice-aggregate-within c = search needs

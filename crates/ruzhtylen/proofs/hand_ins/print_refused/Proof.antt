@@ -1,8 +1,8 @@
 use mathlib.Core.Path.{sym}
 use lib.Seq.{length-take-le}
 use borrow.Author.Needs.{needs}
-use Rattle.ruzhtylen.proofs.marking.print_refused.Statement.{statement}
-use Rattle.ruzhtylen.proofs.marking.print_refused.Tie as tie
+use Rattle.ruzhtylen.proofs.hand_ins.print_refused.Statement.{statement}
+use Rattle.ruzhtylen.proofs.hand_ins.print_refused.Tie as tie
 
 refused-requires : tie.Need-refused-requires
 refused-requires c κs = search needs

@@ -1,7 +1,7 @@
 use Prim.Native.Nat.{_-_}
 use borrow.Author.Needs.{needs}
-use Rattle.ruzhtylen.proofs.marking.mark_all.Statement.{statement}
-use Rattle.ruzhtylen.proofs.marking.mark_all.Tie as tie
+use Rattle.ruzhtylen.proofs.hand_ins.mark_all.Statement.{statement}
+use Rattle.ruzhtylen.proofs.hand_ins.mark_all.Tie as tie
 
 abbrev Inv-loop : tie.InvT-loop
 Inv-loop list quanta count alone is-block seen₀ status₀ i₀ seen status i = Unit {0}
