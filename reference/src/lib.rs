@@ -1,4 +1,4 @@
-//! The entries of the scope document with its change requests E1, E2 and E4 as plain functions,
+//! The entries of the scope document with its change requests E1, E2, E4 and E5 as plain functions,
 //! written by direct reading and exhaustive search, and the generation of cases with their expected
 //! answers.
 
@@ -8,6 +8,7 @@ pub mod entries;
 pub mod frames;
 pub mod generation;
 pub mod jobs;
+pub mod kernel;
 pub mod key;
 pub mod marker;
 pub mod planner;
@@ -18,6 +19,7 @@ pub mod response_time;
 pub use configuration::{read_configuration, same_bytes, write_configuration};
 pub use desk::edit;
 pub use jobs::{read_jobs, write_jobs};
+pub use kernel::{from_kernel, to_kernel};
 pub use key::key;
 pub use marker::mark;
 pub use planner::plan;

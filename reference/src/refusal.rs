@@ -1,4 +1,4 @@
-//! The twelve reasons a call is turned down, each with its number, and the test for refusal 12.
+//! The reasons a call is turned down, each with its number, and the test for refusal 12.
 
 /// "Why a call is turned down": one case for each numbered line, whose value is the line's number.
 #[derive(Clone, Copy, Debug, PartialEq, Eq)]
@@ -31,10 +31,14 @@ pub enum Refusal {
     JobNotPlaced = 11,
     /// "A lent output is shorter than needed."
     OutputLength = 12,
+    /// By E5 "the lowest priority is above the highest or the two span fewer than n values".
+    PriorityRange = 13,
+    /// By E5 "a kernel priority is outside the top n values".
+    KernelPriority = 14,
 }
 
 /// All refusals in the order in which they are sought: "Each number is sought through all records
-/// before the next is tried."
+/// before the next is tried." By E5 13 comes "after 6" and 14 "after 8".
 pub const REFUSALS: &[Refusal] = &[
     Refusal::JobCount,
     Refusal::JobIdentity,
@@ -42,8 +46,10 @@ pub const REFUSALS: &[Refusal] = &[
     Refusal::EditPlace,
     Refusal::JobTimes,
     Refusal::QuantumRange,
+    Refusal::PriorityRange,
     Refusal::ConfigurationCount,
     Refusal::ConfigurationIdentity,
+    Refusal::KernelPriority,
     Refusal::RecordShape,
     Refusal::LevelSharing,
     Refusal::JobNotPlaced,

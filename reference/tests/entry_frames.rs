@@ -4,14 +4,16 @@ mod common;
 
 use common::{block_of_jobs, delayed_jobs, job_block};
 use reference::entries::{
-    answer, BOUNDS, EDIT, ENTRIES, KEY, MARK, PLAN, READ_CONFIGURATION, READ_JOBS, SAME_BYTES,
-    WRITE_CONFIGURATION, WRITE_JOBS,
+    answer, BOUNDS, EDIT, ENTRIES, FROM_KERNEL, KEY, MARK, PLAN, READ_CONFIGURATION, READ_JOBS,
+    SAME_BYTES, TO_KERNEL, WRITE_CONFIGURATION, WRITE_JOBS,
 };
 use reference::frames::Frame;
 
-/// The passing configuration of the second worked list, and its bounds.
+/// The passing configuration of the second worked list, its bounds, and its kernel records for
+/// priorities up to 99.
 const SETTINGS: [u8; 8] = [1, 2, 2, 3, 2, 2, 2, 1];
 const BOUNDS_OF_JOBS: [u8; 4] = [0, 8, 0, 20];
+const KERNEL: [u8; 8] = [1, 2, 98, 3, 2, 2, 98, 1];
 
 /// The job block of the second worked list.
 fn jobs() -> Vec<u8> {
@@ -40,10 +42,13 @@ fn frame(head: u8, numbers: &[u16], blocks: Vec<Vec<u8>>) -> Frame {
     }
 }
 
-/// Input frames on the second worked list, range 1 to 4, for all entries in order.
-fn input_frames() -> [Frame; 10] {
+/// Input frames on the second worked list, range 1 to 4, priorities 1 to 99, for all entries in
+/// order.
+fn input_frames() -> [Frame; 12] {
     let (jobs, settings, range) = (jobs(), SETTINGS.to_vec(), [1, 4]);
+    let (kernel, range_and_priorities) = (KERNEL.to_vec(), [1, 4, 1, 99]);
     let lent = output(&[], 20);
+    let configured = vec![jobs.clone(), settings.clone(), lent.clone()];
     [
         frame(READ_JOBS, &[], vec![jobs.clone()]),
         frame(WRITE_JOBS, &[2], vec![table(&jobs, 64), lent.clone()]),
@@ -57,25 +62,23 @@ fn input_frames() -> [Frame; 10] {
             &[1, 4, 2],
             vec![jobs.clone(), table(&settings, 32), lent.clone()],
         ),
+        frame(BOUNDS, &range, configured.clone()),
+        frame(MARK, &range, configured.clone()),
         frame(
-            BOUNDS,
+            PLAN,
             &range,
-            vec![jobs.clone(), settings.clone(), lent.clone()],
+            vec![jobs.clone(), lent.clone(), output(&[], 10)],
         ),
-        frame(
-            MARK,
-            &range,
-            vec![jobs.clone(), settings.clone(), lent.clone()],
-        ),
-        frame(PLAN, &range, vec![jobs.clone(), lent, output(&[], 10)]),
         frame(SAME_BYTES, &[], vec![settings.clone(), settings]),
         frame(EDIT, &[1, 7, 256, 9], vec![jobs.clone()]),
-        frame(KEY, &range, vec![jobs]),
+        frame(KEY, &range, vec![jobs.clone()]),
+        frame(TO_KERNEL, &range_and_priorities, configured),
+        frame(FROM_KERNEL, &range_and_priorities, vec![jobs, kernel, lent]),
     ]
 }
 
 /// The output frames of these input frames.
-fn output_frames() -> [Frame; 10] {
+fn output_frames() -> [Frame; 12] {
     let mut edited = jobs();
     edited[10..].copy_from_slice(&[0, 7, 1, 0, 0, 9]);
     let text = b"1 2 2 3 8\n2 2 2 1 20\nplaced 2 of 2\n";
@@ -94,13 +97,15 @@ fn output_frames() -> [Frame; 10] {
         frame(0, &[1], vec![]),
         frame(0, &[], vec![edited]),
         frame(0, &[], vec![text.to_vec()]),
+        frame(0, &[], vec![output(&KERNEL, 20)]),
+        frame(0, &[], vec![output(&SETTINGS, 20)]),
     ]
 }
 
 #[test]
-fn entries_have_the_numbers_1_to_10() {
+fn entries_have_the_numbers_1_to_12() {
     let numbers: Vec<u8> = ENTRIES.iter().map(|entry| entry.number).collect();
-    assert_eq!(numbers, [1, 2, 3, 4, 5, 6, 7, 8, 9, 10]);
+    assert_eq!(numbers, [1, 2, 3, 4, 5, 6, 7, 8, 9, 10, 11, 12]);
     assert_eq!(input_frames().map(|input| input.head), numbers[..]);
 }
 
@@ -121,7 +126,9 @@ fn refused_calls_answer_no_numbers_and_leave_what_is_lent() {
             READ_JOBS => frame(3, &[], vec![table(&[], 64)]),
             READ_CONFIGURATION => frame(3, &[], vec![table(&[], 32)]),
             WRITE_JOBS => frame(3, &[], before[1..].to_vec()),
-            WRITE_CONFIGURATION | BOUNDS | MARK => frame(3, &[], before[2..].to_vec()),
+            WRITE_CONFIGURATION | BOUNDS | MARK | TO_KERNEL | FROM_KERNEL => {
+                frame(3, &[], before[2..].to_vec())
+            }
             PLAN => frame(3, &[], before[1..].to_vec()),
             KEY => frame(0, &[], vec![b"refused 3\n".to_vec()]),
             _ => continue,
@@ -181,7 +188,7 @@ fn records_of_jobs_have_the_delay_in_their_second_byte() {
 
 #[test]
 fn frames_of_no_entry_have_no_answer() {
-    for number in [0, 11, 255] {
+    for number in [0, 13, 255] {
         assert_eq!(answer(&frame(number, &[1, 4], vec![jobs()])), None);
     }
 }
@@ -212,10 +219,12 @@ fn frames_with_other_parts_than_the_entry_is_given_have_no_answer() {
 
 #[test]
 fn frames_with_parts_that_the_entry_cannot_be_given_have_no_answer() {
-    let [_, write, read_configuration, write_configuration, bounds, mark, plan, _, edit, key] =
+    let [_, write, read_configuration, write_configuration, bounds, mark, plan, _, edit, key, ..] =
         input_frames();
-    for ranged in [read_configuration, bounds, mark, plan, key.clone()] {
-        for place in [0, 1] {
+    let [.., to_kernel, from_kernel] = input_frames();
+    let ranged = [read_configuration, bounds, mark, plan, key.clone()];
+    for ranged in ranged.into_iter().chain([to_kernel, from_kernel]) {
+        for place in 0..ranged.numbers.len() {
             let mut changed = ranged.clone();
             changed.numbers[place] = 256;
             assert_eq!(answer(&changed), None);

@@ -2,6 +2,7 @@
 use crate::reply;
 use crate::tables;
 use configuration::setting::Setting;
+use kernel::priority::KernelPriority;
 use marker::MarkAnswer;
 use planner::PlanAnswer;
 use records::job::Job;
@@ -106,4 +107,46 @@ pub fn key(jobs: &[u8], low: u8, high: u8) {
     let mut output = [0u8; text::key::SIZE];
     let length = text::key::key(jobs, low, high, &mut output);
     reply::write_one(reply::done(), &output[..length]);
+}
+
+pub fn to_kernel(
+    jobs: &[u8],
+    low: u8,
+    high: u8,
+    lowest: u8,
+    highest: u8,
+    configuration: &[u8],
+    output: &mut [u8],
+) {
+    let answer = kernel::to_kernel(
+        jobs,
+        low,
+        high,
+        KernelPriority(lowest),
+        KernelPriority(highest),
+        configuration,
+        &mut *output,
+    );
+    reply::write_one(reply::judged(answer), output);
+}
+
+pub fn from_kernel(
+    jobs: &[u8],
+    low: u8,
+    high: u8,
+    lowest: u8,
+    highest: u8,
+    kernel: &[u8],
+    output: &mut [u8],
+) {
+    let answer = kernel::from_kernel(
+        jobs,
+        low,
+        high,
+        KernelPriority(lowest),
+        KernelPriority(highest),
+        kernel,
+        &mut *output,
+    );
+    reply::write_one(reply::judged(answer), output);
 }

@@ -44,10 +44,12 @@ fn read_numbers(count: u8) -> [u16; USED] {
     ]
 }
 
-// Calls the entry. The first two numbers are the range wherever there is one.
+// Calls the entry. The first two numbers are the range wherever there is one, and the next two the priorities.
 fn call(entry: u8, numbers: [u16; USED], a: &[u8], b: &mut [u8], c: &mut [u8]) {
     let low = (numbers[0] % 256) as u8;
     let high = (numbers[1] % 256) as u8;
+    let lowest = (numbers[2] % 256) as u8;
+    let highest = (numbers[3] % 256) as u8;
     match entry {
         1 => calls::read_jobs(a),
         2 => calls::write_jobs(a, numbers[0], b),
@@ -59,6 +61,8 @@ fn call(entry: u8, numbers: [u16; USED], a: &[u8], b: &mut [u8], c: &mut [u8]) {
         8 => calls::same_bytes(a, b),
         9 => calls::edit(a, numbers[0], numbers[1], numbers[2], numbers[3]),
         10 => calls::key(a, low, high),
+        11 => calls::to_kernel(a, low, high, lowest, highest, b, c),
+        12 => calls::from_kernel(a, low, high, lowest, highest, b, c),
         _ => {}
     }
 }

@@ -7,6 +7,7 @@ use crate::configuration::{
 use crate::jobs::{
     jobs_of_records, judge_block_length, judge_identity, judge_order, judge_times, Job,
 };
+use crate::kernel::judge_priority_range;
 use crate::refusal::{judge_output, Refusal};
 
 /// A refusal that applies, and the first record that it applies to if it is about single records.
@@ -26,7 +27,7 @@ pub struct Place {
 /// The place of the jobs among the blocks of an input frame.
 const JOBS: usize = 0;
 
-/// The place of the configuration among the blocks of an input frame.
+/// The place of the configuration, or of the kernel records, among the blocks of an input frame.
 pub const CONFIGURATION: usize = 1;
 
 /// The faults found so far.
@@ -86,6 +87,11 @@ impl Faults {
     pub fn judge_range(&mut self, lowest: u8, highest: u8) -> QuantumRange {
         self.judge(judge_range(lowest, highest).map(|_| ()));
         QuantumRange { lowest, highest }
+    }
+
+    /// Refusal 13.
+    pub fn judge_priority_range(&mut self, lowest: u8, highest: u8, jobs: &[Job]) {
+        self.judge(judge_priority_range(lowest, highest, jobs.len()).map(|_| ()));
     }
 
     /// Refusals 7 to 10 of settings that are as many as the jobs or not.

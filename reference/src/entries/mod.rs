@@ -4,23 +4,27 @@
 pub mod bounds;
 pub mod edit;
 pub mod faults;
+pub mod from_kernel;
 pub mod key;
 pub mod mark;
 pub mod plan;
 pub mod read_configuration;
 pub mod read_jobs;
 pub mod same_bytes;
+pub mod to_kernel;
 pub mod write_configuration;
 pub mod write_jobs;
 
 pub use bounds::BOUNDS;
 pub use edit::EDIT;
+pub use from_kernel::FROM_KERNEL;
 pub use key::KEY;
 pub use mark::MARK;
 pub use plan::PLAN;
 pub use read_configuration::READ_CONFIGURATION;
 pub use read_jobs::READ_JOBS;
 pub use same_bytes::SAME_BYTES;
+pub use to_kernel::TO_KERNEL;
 pub use write_configuration::WRITE_CONFIGURATION;
 pub use write_jobs::WRITE_JOBS;
 
@@ -55,6 +59,8 @@ pub const ENTRIES: &[&Entry] = &[
     &same_bytes::ENTRY,
     &edit::ENTRY,
     &key::ENTRY,
+    &to_kernel::ENTRY,
+    &from_kernel::ENTRY,
 ];
 
 /// The place of the entry with a number among the entries.

@@ -72,7 +72,7 @@ const LISTS: ListRule = ListRule {
 const TURNS_OF_EFFECTS: usize = 1_000;
 
 /// A list with delays of any kind, without regard to what they do.
-fn any_list_with_delays(random: &mut Random, count: usize) -> Vec<Job> {
+pub fn any_list_with_delays(random: &mut Random, count: usize) -> Vec<Job> {
     let mut jobs = any_list(random, count);
     if random.once_in(2) {
         jobs = with_long_deadlines(random, jobs);

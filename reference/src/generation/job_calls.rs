@@ -74,8 +74,8 @@ fn chosen_faults(random: &mut Random, turn: usize, calls: &Calls) -> Vec<u8> {
 
 impl Asked {
     /// A number of jobs that leaves each fault in records a record of its own.
-    fn job_count(&self, random: &mut Random) -> usize {
-        let least = match faults_among(&self.faults, &[2, 3, 5, 8, 9, 10, 11]).len() {
+    pub fn job_count(&self, random: &mut Random) -> usize {
+        let least = match faults_among(&self.faults, &[2, 3, 5, 8, 9, 10, 11, 14]).len() {
             0 => 1,
             1 => 2,
             more => more,
@@ -126,22 +126,20 @@ pub fn any_list(random: &mut Random, count: usize) -> Vec<Job> {
     jobs
 }
 
-/// The call that is asked for, with these parts.
-fn call_with_faults(
+/// The call that is asked for, with these parts and the faults of its jobs alone.
+pub fn call_with_job_faults(
     random: &mut Random,
     asked: &Asked,
     parts: &Parts,
     bad_times: BadTimes,
-) -> Frame {
-    let faults = &asked.faults;
+) -> Call {
     let mut call = Call::new(random, asked.given, parts);
-    put_job_faults(random, &mut call, faults, bad_times);
+    put_job_faults(random, &mut call, &asked.faults, bad_times);
     // The configuration keeps to the jobs' ids, so that a fault in an id is not two faults.
     for (setting, job) in call.setting_records.iter_mut().zip(&call.job_records) {
         setting[0] = job[0];
     }
-    put_setting_faults(random, &mut call, faults);
-    call.into_input(random)
+    call
 }
 
 /// Gives a call that is to find a configuration a range that the search affords, if it has no
@@ -162,7 +160,9 @@ pub fn job_call(random: &mut Random, turn: usize, rule: &CallRule, calls: &Calls
         faults: chosen_faults(random, turn, calls),
     };
     let parts = (rule.lists)(random).parts(random, &asked);
-    let mut input = call_with_faults(random, &asked, &parts, rule.bad_times);
+    let mut call = call_with_job_faults(random, &asked, &parts, rule.bad_times);
+    put_setting_faults(random, &mut call, &asked.faults);
+    let mut input = call.into_input(random);
     let may_be_narrowed = asked.given.is_to_plan() && asked.given.range == Range::Any;
     if may_be_narrowed && !asked.faults.is_empty() {
         make_affordable(&mut input, parts.range);

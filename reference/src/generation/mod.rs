@@ -9,6 +9,9 @@ pub mod delays;
 pub mod effects;
 pub mod job_calls;
 pub mod job_faults;
+pub mod kernel_calls;
+pub mod kernel_faults;
+pub mod kernel_worked;
 pub mod layers;
 pub mod light_neighbour_calls;
 pub mod light_neighbours;
@@ -28,6 +31,7 @@ pub mod situations;
 pub mod summary;
 
 pub use delay_calls::DELAYS;
+pub use kernel_calls::KERNEL_RECORDS;
 pub use light_neighbour_calls::LIGHT_NEIGHBOURS;
 pub use long_deadline_calls::LONG_DEADLINES;
 pub use short_deadline_calls::SHORT_DEADLINES;
@@ -39,7 +43,6 @@ use crate::entries::same_bytes::LONG_BLOCKS;
 use crate::entries::{answer, faults_present, jobs_of_call, place_of_entry};
 use crate::frames::Frame;
 use crate::jobs::Job;
-use random::Random;
 use rounds::{place_in_turn, Kind, Row};
 
 /// The kinds of cases in the order of their cases. After the last kind the first comes again, with
@@ -50,6 +53,7 @@ pub const KINDS: &[&Kind] = &[
     &LIGHT_NEIGHBOURS,
     &DELAYS,
     &LONG_BLOCKS,
+    &KERNEL_RECORDS,
 ];
 
 /// The place of a case's kind among the kinds, and how many cases of that kind come before it.
@@ -88,7 +92,7 @@ pub fn entry_of_case(case: usize) -> u8 {
 /// The input frame of a case, which depends on the seed and the case's number alone.
 pub fn input_of_case(seed: u64, case: usize) -> Frame {
     let (row, turn) = row_of_case(case);
-    row.input(&mut Random::of_case(seed, case as u64), turn)
+    row.input(seed, case, turn)
 }
 
 /// What lets a case be asked for its entry's answers.

@@ -17,6 +17,8 @@ pub type DrawInput = fn(&mut Random, usize) -> Frame;
 
 enum Draw {
     Input(DrawInput),
+    /// The source of numbers is that of the turn and not that of the case.
+    ByTurn(DrawInput),
     JobCall(&'static CallRule, Calls),
 }
 
@@ -26,6 +28,16 @@ pub const fn row(entry: u8, calls: usize, input: DrawInput) -> Row {
         entry,
         calls,
         draw: Draw::Input(input),
+    }
+}
+
+/// The row of calls each of which belongs to the call with the same turn in another such row. Both
+/// have the same source of numbers, so that the one can be made from the other.
+pub const fn row_by_turn(entry: u8, calls: usize, input: DrawInput) -> Row {
+    Row {
+        entry,
+        calls,
+        draw: Draw::ByTurn(input),
     }
 }
 
@@ -53,11 +65,16 @@ pub const fn job_row(
 }
 
 impl Row {
-    /// The input of the call that has this turn in the row, counted from 0.
-    pub fn input(&self, random: &mut Random, turn: usize) -> Frame {
+    /// The input of a case, which is the call that has this turn in the row, counted from 0.
+    pub fn input(&self, seed: u64, case: usize, turn: usize) -> Frame {
+        let number = match &self.draw {
+            Draw::ByTurn(_) => turn,
+            _ => case,
+        };
+        let mut random = Random::of_case(seed, number as u64);
         match &self.draw {
-            Draw::Input(input) => input(random, turn),
-            Draw::JobCall(rule, calls) => job_call(random, turn, rule, calls),
+            Draw::Input(input) | Draw::ByTurn(input) => input(&mut random, turn),
+            Draw::JobCall(rule, calls) => job_call(&mut random, turn, rule, calls),
         }
     }
 }

@@ -16,15 +16,32 @@ const QUANTUM: usize = 3;
 
 /// Puts the faults among 6 to 10 and 12 into a call.
 pub fn put_setting_faults(random: &mut Random, call: &mut Call, faults: &[u8]) {
-    let in_records = faults_among(faults, &[8, 9, 10, 11]);
+    put_faults(random, call, faults, &[8, 9, 10, 11], put_record_fault);
+}
+
+/// Puts one of the faults 8 to 10 into a record.
+fn put_record_fault(random: &mut Random, call: &mut Call, fault: u8, record: usize) {
+    match fault {
+        8 => put_identity_fault(random, call, record),
+        9 => put_shape_fault(random, call, record),
+        10 => put_sharing_fault(random, call, record),
+        _ => {}
+    }
+}
+
+/// Puts faults into a call: those among the numbers of faults of records, each into a record of
+/// its own if there are enough, then those among 6, 7 and 12.
+pub fn put_faults(
+    random: &mut Random,
+    call: &mut Call,
+    faults: &[u8],
+    numbers_of_records: &[u8],
+    put_record_fault: impl Fn(&mut Random, &mut Call, u8, usize),
+) {
+    let in_records = faults_among(faults, numbers_of_records);
     let records = fault_records(random, in_records.len(), call.jobs);
     for (fault, record) in in_records.iter().zip(records) {
-        match fault {
-            8 => put_identity_fault(random, call, record),
-            9 => put_shape_fault(random, call, record),
-            10 => put_sharing_fault(random, call, record),
-            _ => {}
-        }
+        put_record_fault(random, call, *fault, record);
     }
     for fault in faults {
         match fault {
@@ -73,7 +90,7 @@ fn put_count_fault(random: &mut Random, call: &mut Call, may_be_empty: bool) {
 }
 
 /// Refusal 8: another id, or the ids of two records exchanged.
-fn put_identity_fault(random: &mut Random, call: &mut Call, record: usize) {
+pub fn put_identity_fault(random: &mut Random, call: &mut Call, record: usize) {
     let other = random.below(call.jobs);
     let id = call.setting_records[record][ID];
     if other != record && random.once_in(2) {

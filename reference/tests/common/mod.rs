@@ -12,12 +12,16 @@ use reference::jobs::{record_of_job, Job};
 use reference::response_time::{
     bound, first_bound, jobs_above, layer_demand, neighbours, run_of_job, second_bound,
 };
+use reference::Refusal;
 
 /// A job's C, T and D.
 pub type Times = (u16, u16, u16);
 
 /// A setting's id, level, policy and quantum.
 pub type SettingNumbers = [u8; 4];
+
+/// An entry that converts a configuration into kernel records or back.
+pub type Conversion = fn(&[u8], u8, u8, u8, u8, &[u8], &mut [u8]) -> Result<(), Refusal>;
 
 /// The planner's whole answer as plain numbers.
 #[derive(Debug, PartialEq, Eq)]

@@ -1,10 +1,14 @@
 //! What must hold of the answers of all stored cases.
 
 use reference::configuration::{put_settings, QuantumRange, SETTING_BYTES};
-use reference::entries::{answer, BOUNDS, EDIT, KEY, MARK, PLAN, WRITE_CONFIGURATION, WRITE_JOBS};
+use reference::entries::{
+    answer, BOUNDS, EDIT, FROM_KERNEL, KEY, MARK, PLAN, READ_CONFIGURATION, READ_JOBS, SAME_BYTES,
+    TO_KERNEL, WRITE_CONFIGURATION, WRITE_JOBS,
+};
 use reference::frames::{frames_of_file, Frame};
 use reference::generation::Case;
 use reference::jobs::{jobs_of_records, Job};
+use reference::kernel::KERNEL_BYTES;
 use reference::key::text_of_plan;
 use reference::planner::{plan_jobs_within, Plan};
 use reference::refusal::{Refusal, REFUSALS};
@@ -52,9 +56,11 @@ fn bytes_past_the_need_stay_and_a_refusal_changes_nothing() {
             (0, WRITE_JOBS | WRITE_CONFIGURATION) => vec![usize::from(output.numbers[0])],
             (0, BOUNDS | MARK) => vec![BOUND_BYTES * jobs],
             (0, PLAN) => vec![SETTING_BYTES * jobs, BOUND_BYTES * jobs],
-            (_, WRITE_JOBS | WRITE_CONFIGURATION | BOUNDS | MARK) => vec![0],
+            (0, TO_KERNEL) => vec![KERNEL_BYTES * jobs],
+            (0, FROM_KERNEL) => vec![SETTING_BYTES * jobs],
             (_, PLAN) => vec![0, 0],
-            _ => continue,
+            (_, READ_JOBS | READ_CONFIGURATION | SAME_BYTES | EDIT | KEY) => continue,
+            _ => vec![0],
         };
         // The outputs lent are the last blocks of the input frame and all of the output frame.
         let before = &input.blocks[input.blocks.len() - written.len()..];

@@ -3,6 +3,8 @@
 mod answers;
 #[path = "../common/mod.rs"]
 mod common;
+mod kernel_readings;
+mod kernel_records;
 mod long_blocks;
 mod minimums;
 mod readings;
@@ -17,7 +19,7 @@ use reference::jobs::{jobs_of_records, Job};
 use reference::response_time::{bounds_of_records, BOUND_BYTES};
 
 /// How many cases are stored.
-const STORED: usize = 7_500;
+const STORED: usize = 8_400;
 
 /// The stored cases.
 fn stored() -> &'static [Case] {

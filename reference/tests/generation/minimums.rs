@@ -60,7 +60,7 @@ fn minimums_by_entry_and_refusal() {
             number == 12 || counts.with_later >= 20,
             "refusal {number}: {counts:?}"
         );
-        let in_records = matches!(number, 2 | 3 | 8 | 9);
+        let in_records = matches!(number, 2 | 3 | 8 | 9 | 14);
         assert!(
             !in_records || counts.with_later_before >= 5,
             "refusal {number}: {counts:?}"
