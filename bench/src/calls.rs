@@ -12,6 +12,10 @@ pub type Plan = fn(&[u8], u8, u8, &mut [u8], &mut [u8]) -> u32;
 /// output for bounds.
 pub type Mark = fn(&[u8], u8, u8, &[u8], &mut [u8]) -> u32;
 
+/// The entry that converts to kernel records, or back: a job block, a range, the lowest and the
+/// highest priority, a block to convert, and the output for the other block.
+pub type Convert = fn(&[u8], (u8, u8), (u8, u8), &[u8], &mut [u8]) -> u32;
+
 /// What a call is given; the planner is not given the configuration.
 #[derive(Clone)]
 pub struct Case {
@@ -91,6 +95,25 @@ impl Case {
             &self.configuration,
             &mut answer.bounds,
         );
+    }
+
+    /// Calls a conversion of the configuration or the kernel block; the answer is written over.
+    #[inline(always)]
+    pub fn call_convert(&self, priorities: (u8, u8), convert: Convert, answer: &mut Answer) {
+        answer.word = convert(
+            &self.jobs,
+            (self.low, self.high),
+            priorities,
+            &self.configuration,
+            &mut answer.configuration,
+        );
+    }
+
+    /// The answer of a conversion.
+    pub fn converted(&self, priorities: (u8, u8), convert: Convert) -> Answer {
+        let mut answer = Answer::blank();
+        self.call_convert(priorities, convert, &mut answer);
+        answer
     }
 
     /// The answer of a planner.

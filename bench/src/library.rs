@@ -8,6 +8,11 @@ type MarkEntry =
 type PlanEntry =
     unsafe extern "C" fn(*const u8, usize, u8, u8, *mut u8, usize, *mut u8, usize) -> u32;
 
+/// An entry that is given a job block, a range, the lowest and the highest priority, a block to
+/// convert and an output.
+type ConvertEntry =
+    unsafe extern "C" fn(*const u8, usize, u8, u8, u8, u8, *const u8, usize, *mut u8, usize) -> u32;
+
 /// The entries of one version of the library that work on configurations, under the names that
 /// they have in its archive.
 macro_rules! version {
@@ -62,6 +67,32 @@ mod entries {
             b: *const u8,
             b_length: usize,
         ) -> u8;
+
+        pub fn ruzhtylen_to_kernel(
+            jobs: *const u8,
+            jobs_length: usize,
+            low: u8,
+            high: u8,
+            lowest: u8,
+            highest: u8,
+            configuration: *const u8,
+            configuration_length: usize,
+            output: *mut u8,
+            output_length: usize,
+        ) -> u32;
+
+        pub fn ruzhtylen_from_kernel(
+            jobs: *const u8,
+            jobs_length: usize,
+            low: u8,
+            high: u8,
+            lowest: u8,
+            highest: u8,
+            kernel: *const u8,
+            kernel_length: usize,
+            output: *mut u8,
+            output_length: usize,
+        ) -> u32;
 
         pub fn ruzhtylen_same_singly(
             a: *const u8,
@@ -168,4 +199,54 @@ pub fn same_bytes(a: &[u8], b: &[u8]) -> bool {
 pub fn same_singly(a: &[u8], b: &[u8]) -> bool {
     // SAFETY: each pointer and length is of one slice that is lent for the call.
     unsafe { entries::ruzhtylen_same_singly(a.as_ptr(), a.len(), b.as_ptr(), b.len()) }
+}
+
+#[inline(always)]
+fn call_convert(
+    entry: ConvertEntry,
+    jobs: &[u8],
+    quanta: (u8, u8),
+    priorities: (u8, u8),
+    block: &[u8],
+    output: &mut [u8],
+) -> u32 {
+    // SAFETY: each pointer and length is of one slice that is lent for the call.
+    unsafe {
+        entry(
+            jobs.as_ptr(),
+            jobs.len(),
+            quanta.0,
+            quanta.1,
+            priorities.0,
+            priorities.1,
+            block.as_ptr(),
+            block.len(),
+            output.as_mut_ptr(),
+            output.len(),
+        )
+    }
+}
+
+/// Converts a full configuration block to kernel records.
+pub fn to_kernel(
+    jobs: &[u8],
+    quanta: (u8, u8),
+    priorities: (u8, u8),
+    configuration: &[u8],
+    output: &mut [u8],
+) -> u32 {
+    let entry = entries::ruzhtylen_to_kernel;
+    call_convert(entry, jobs, quanta, priorities, configuration, output)
+}
+
+/// Converts a kernel block to a configuration block.
+pub fn from_kernel(
+    jobs: &[u8],
+    quanta: (u8, u8),
+    priorities: (u8, u8),
+    kernel: &[u8],
+    output: &mut [u8],
+) -> u32 {
+    let entry = entries::ruzhtylen_from_kernel;
+    call_convert(entry, jobs, quanta, priorities, kernel, output)
 }

@@ -28,13 +28,14 @@ use timing::Effort;
 /// A measure with its letter.
 type Measure = (char, fn(&Scale));
 
-const MEASURES: [Measure; 6] = [
+const MEASURES: [Measure; 7] = [
     ('a', measures::same_algorithm::run),
     ('b', measures::pruned_search::run),
     ('c', measures::slowest_list::run),
     ('d', measures::hand_ins::run),
     ('e', measures::mean_plan::run),
     ('f', measures::same_bytes::run),
+    ('g', measures::loader::run),
 ];
 
 /// What the words on the command line ask for.

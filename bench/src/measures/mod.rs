@@ -1,6 +1,7 @@
 //! The measures, a module for each.
 
 pub mod hand_ins;
+pub mod loader;
 pub mod mean_plan;
 pub mod pruned_search;
 pub mod same_algorithm;

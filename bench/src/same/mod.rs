@@ -2,6 +2,7 @@
 //! shortcuts, the same search for quanta and the same order of sets.
 
 pub mod job;
+pub mod kernel;
 pub mod marker;
 pub mod order;
 pub mod planner;
