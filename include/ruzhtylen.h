@@ -64,8 +64,8 @@ uint32_t ruzhtylen_to_kernel(const uint8_t *jobs, size_t jobs_length, uint8_t lo
                              const uint8_t *configuration, size_t configuration_length,
                              uint8_t *output, size_t output_length);
 
-/* The way back: writes kernel records as a configuration, four bytes for each job. With the same range and priorities each gives what the
-   other was given. */
+/* The way back: writes kernel records as a configuration, four bytes for each job. With the same jobs, range and priorities each gives
+   what the other was given. */
 uint32_t ruzhtylen_from_kernel(const uint8_t *jobs, size_t jobs_length, uint8_t low, uint8_t high,
                                uint8_t lowest, uint8_t highest,
                                const uint8_t *kernel, size_t kernel_length,
