@@ -16,7 +16,7 @@ use Rattle.records.specs.Refusals.{Answer, refused, given, number, outco
 use Rattle.records.specs.declared.refusal.Verdict.{Verdict}
 use Rattle.records.specs.declared.refusal.Counted.{Counted}
 use Rattle.records.specs.declared.refusal.Counted.the-variants.{Count, Refused}
-use Rattle.records.specs.Records.{word, wordOf, wordBytes, flat, chunks, table, written, roomTests, writeRecords}
+use Rattle.records.specs.Records.{word, wordOf, wordBytes, longOf, longBytes, flat, chunks, table, written, roomTests, writeRecords}
 use Rattle.records.proofs.Outcomes.{accepts, keeps, gives, refuses-alike}
 
 -- ---- lists of records
@@ -126,7 +126,7 @@ read-next w read k z i s t a h e f =
     rw (e, f, rest-of (w * i) s, chunks-snoc w read i s) (fill-next k i (chunks w read i s) z (read (drop (w * i) s)) (length-chunks w read i s) h)
 
 -- Writing v after p, through the part `&mut output[a..]`: what the whole list then is.
-put-after : (p v d : List ℕ) (a w : ℕ) → length p ≡ a → (out : List ℕ) → out ≡ p ++ drop a d → (ys : List ℕ)
+pub put-after : (p v d : List ℕ) (a w : ℕ) → length p ≡ a → (out : List ℕ) → out ≡ p ++ drop a d → (ys : List ℕ)
     → ys ≡ v ++ drop w (take (length out - a) (drop a out)) → take a out ++ (ys ++ drop (length out - a) (drop a out)) ≡ (p ++ v) ++ drop (a + w) d
 put-after p v d a w lp out e ys f =
     let da : drop a out ≡ drop a d = rw e (drop-at p (drop a d) a lp) in
@@ -246,3 +246,13 @@ word-width x = refl
 pub words-back : (xs : List ℕ) → chunks 2 wordOf (length xs) (flat wordBytes xs) ≡ xs
 unfolding wordOf wordBytes
 words-back xs = chunks-flat 2 wordBytes wordOf word-width (λ x s. word-back x) xs
+
+-- ---- four-byte numbers
+
+pub long-width : (x : ℕ) → length (longBytes x) ≡ 4
+unfolding longBytes wordBytes
+long-width x = refl
+
+pub long-back : (x : ℕ) (s : List ℕ) → longOf (longBytes x ++ s) ≡ x
+unfolding longBytes wordBytes longOf wordOf
+long-back x s = omega (arith, word-back (x / 65536), word-back (x % 65536))

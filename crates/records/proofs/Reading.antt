@@ -1,15 +1,16 @@
 -- What is known of an accepted job block and of its list of jobs, and what a caller of read_jobs knows. Assumes nothing.
 use Prim.Native.Nat.{ℕ, zero, suc, _+_, _%_, _*_, _≤_, _<_}
 use mathlib.Core.Path.{_≡_, refl, sym, ap, subst, _∙_}
-use mathlib.Core.Bool.{true, false≢true}
+use mathlib.Core.Bool.{true, _&&_, and-eq-true-iff}
 use mathlib.Core.List.{List, []}
 use native.Mathlib.Decide.{decLe}
 use native.Mathlib.Omega.{arith}
+use lib.Dec.{leb}
 use lib.ListN.{length, getD, drop, List·getD-eq-default}
 use lib.Seq.{getD-drop}
-use borrow.Author.Tests.{leb-true, eqb-true, le-leb, lt-leb}
+use borrow.Author.Tests.{leb-true, eqb-true, le-leb}
 use Rattle.sets.proofs.Places.{every-at}
-use Rattle.records.specs.Limits.{mostJobs}
+use Rattle.records.specs.Limits.{longestPeriod, longestDeadline, mostJobs}
 use Rattle.records.specs.Records.{chunks}
 use Rattle.records.specs.Refusals.{counted, Accepts}
 use Rattle.records.specs.Jobs.{jobSize, jobOf, blankJob, jobAt, NoDelay, timesOk, jobOkAt, jobTests, countTests, tableTests, AcceptedJobs, blockTests, jobCount, jobsIn, jobList, jobTable, jobsOutcome, readJobs}
@@ -44,6 +45,14 @@ module _ (block : List ℕ) (ok : Accepts (blockTests block)) where
 
 -- ---- an accepted list
 
+times-held : (cost period deadline : ℕ) → timesOk cost period deadline ≡ true → (1 ≤ cost) × ((period ≤ longestPeriod) × (deadline ≤ longestDeadline))
+unfolding timesOk
+times-held cost period deadline e =
+    let d = and-eq-true-iff (leb 1 cost && leb cost deadline && leb cost period && leb period longestPeriod) (leb deadline longestDeadline) .0 e in
+    let p = and-eq-true-iff (leb 1 cost && leb cost deadline && leb cost period) (leb period longestPeriod) .0 (d .0) in
+    let c = and-eq-true-iff (leb 1 cost && leb cost deadline) (leb cost period) .0 (p .0) in
+    (leb-true 1 cost (and-eq-true-iff (leb 1 cost) (leb cost deadline) .0 (c .0) .0), (leb-true period longestPeriod (p .1), leb-true deadline longestDeadline (d .1)))
+
 module _ (jobs : List Job) (ok : AcceptedJobs jobs) where
   pub jobs-most : length jobs ≤ mostJobs
   jobs-most = leb-true _ _ (ok .1 .0)
@@ -53,14 +62,11 @@ module _ (jobs : List Job) (ok : AcceptedJobs jobs) where
   times-at i l = every-at (jobOkAt Times jobs) (length jobs) (ok .1 .1 .1 .1 .0) i l
 
   pub cost-at : (i : ℕ) → i < length jobs → 1 ≤ jobAt jobs i .cost
-  unfolding timesOk
-  cost-at i l = times-cost (jobAt jobs i .cost) (jobAt jobs i .period) (jobAt jobs i .deadline) (times-at i l)
-    where
-      times-cost : (cost period deadline : ℕ) → timesOk cost period deadline ≡ true → 1 ≤ cost
-      times-cost cost period deadline e = elim (decLe 1 cost) [
-        | yes h ↦ h
-        | no h ↦ absurd (false≢true (simp (lt-leb 1 cost (omega arith)) at e))
-      ]
+  cost-at i l = times-held (jobAt jobs i .cost) (jobAt jobs i .period) (jobAt jobs i .deadline) (times-at i l) .0
+
+  -- And neither its period nor its deadline is longer than the longest.
+  pub longest-at : (i : ℕ) → i < length jobs → (jobAt jobs i .period ≤ longestPeriod) × (jobAt jobs i .deadline ≤ longestDeadline)
+  longest-at i l = times-held (jobAt jobs i .cost) (jobAt jobs i .period) (jobAt jobs i .deadline) (times-at i l) .1
 
 -- ---- a block without delays
 

@@ -17,6 +17,13 @@ wordOf block = word (getD block 0 0) (getD block 1 0)
 unfoldable pub wordBytes : ℕ → List ℕ
 wordBytes x = x / 256 ∷ x % 256 ∷ []
 
+-- The same with four bytes, "high byte first" (02, E6): two bytes for the high half and two for the low one.
+unfoldable pub longOf : List ℕ → ℕ
+longOf block = wordOf block * 65536 + wordOf (drop 2 block)
+
+unfoldable pub longBytes : ℕ → List ℕ
+longBytes x = wordBytes (x / 65536) ++ wordBytes (x % 65536)
+
 -- Each number of a list is a byte.
 abbrev pub AllBytes : List ℕ → Type 0
 AllBytes s = (i : ℕ) → getD s i 0 < 256

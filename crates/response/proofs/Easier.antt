@@ -54,7 +54,7 @@ others-mono n k q q′ s s′ h l =
     (λ i il e. let w = and-eq-true-iff (s′ i) (not (eqb i k)) .0 e in and-eq-true-iff (s i) (not (eqb i k)) .1 (h i il (w .0), w .1))
     (λ i il e. let w = other s′ k i e in l i il (w .0) (w .1))
 
-others-same : (n k : ℕ) (q q′ : List ℕ) (s s′ : Set) → ((i : ℕ) → i < n → s i ≡ s′ i) → ((i : ℕ) → i < n → s′ i ≡ true → i ≢ k → getD q i 0 ≡ getD q′ i 0)
+pub others-same : (n k : ℕ) (q q′ : List ℕ) (s s′ : Set) → ((i : ℕ) → i < n → s i ≡ s′ i) → ((i : ℕ) → i < n → s′ i ≡ true → i ≢ k → getD q i 0 ≡ getD q′ i 0)
     → otherQuanta n q s k ≡ otherQuanta n q′ s′ k
 unfolding otherQuanta
 others-same n k q q′ s s′ h l =
@@ -62,7 +62,7 @@ others-same n k q q′ s s′ h l =
     (λ i il. ap (λ (b : Bool). b && not (eqb i k)) (h i il))
     (λ i il e. let w = other s′ k i e in l i il (w .0) (w .1))
 
-others-alone : (n k : ℕ) (q : List ℕ) (s : Set) → Alone n s k → otherQuanta n q s k ≡ 0
+pub others-alone : (n k : ℕ) (q : List ℕ) (s : Set) → Alone n s k → otherQuanta n q s k ≡ 0
 unfolding otherQuanta
 others-alone n k q s a = over-zero n (λ i. s i && not (eqb i k)) _ (λ i il e. let w = other s k i e in absurd (w .1 (a i il (w .0))))
 
@@ -83,14 +83,14 @@ unfolding layerShare
 lighter-quanta n k q q′ s s′ p h o own = mul-le-mul (ceil-anti own (getD q k 0) (getD q′ k 0) p h) o
 
 -- No other job: no share.
-share-alone : (n k : ℕ) (q : List ℕ) (s : Set) → Alone n s k → (own : ℕ) → layerShare n q s k own ≡ 0
+pub share-alone : (n k : ℕ) (q : List ℕ) (s : Set) → Alone n s k → (own : ℕ) → layerShare n q s k own ≡ 0
 unfolding layerShare
 share-alone n k q s a own = rw (others-alone n k q s a, mul-zero)
 
 pub lighter-alone : (n k : ℕ) (q q′ : List ℕ) (s s′ : Set) → Alone n s′ k → Lighter n k q s q′ s′
 lighter-alone n k q q′ s s′ a own = omega (arith, share-alone n k q′ s′ a own)
 
-only-alone : (n k : ℕ) → Alone n (only k) k
+pub only-alone : (n k : ℕ) → Alone n (only k) k
 only-alone n k i il e = eqb-true i k e
 
 -- ---- THE law: a job that is served stays served with a lighter share, a smaller layer and a smaller set above
@@ -233,30 +233,34 @@ second-alone jobs k q q′ s s′ a x =
     alone-same jobs k q q′ (only k) s′ (withNeighbours s a k) (withNeighbours s a k) (only-alone (length jobs) k) x (λ i il. refl)
     ∙ sym (first-alone jobs k q′ s′ (withNeighbours s a k) x)
 
+-- Sums over a table, as over the list that the table begins with, for sets that have no place past it.
+module _ (n : ℕ) (jobs : List Job) (h : n ≤ length jobs) where
+  size-take : length (take n jobs) ≡ n
+  size-take = length-take-le n jobs h
+
+  pub others-take : (q : List ℕ) (s : Set) (k : ℕ) → ((i : ℕ) → n ≤ i → s i ≡ false) → otherQuanta (length jobs) q s k ≡ otherQuanta (length (take n jobs)) q s k
+  unfolding otherQuanta
+  others-take q s k hs =
+      over-cut n (length jobs) (λ i. s i && not (eqb i k)) (λ i. getD q i 0) h
+      (λ i l il e. absurd (false≢true (sym (hs i l) ∙ other s k i e .0)))
+      ∙ ap (λ (m : ℕ). otherQuanta m q s k) (sym size-take)
+
+  pub interference-take : (a : Set) → ((i : ℕ) → n ≤ i → a i ≡ false) → (t : ℕ) → interference jobs a t ≡ interference (take n jobs) a t
+  unfolding interference
+  interference-take a ha t =
+      over-cut n (length jobs) a (λ i. work (jobAt jobs i) t) h (λ i l il e. absurd (false≢true (sym (ha i l) ∙ e)))
+      ∙ over-same n a a _ (λ i. work (jobAt (take n jobs) i) t) (λ i l. refl) (λ i l e. ap (λ (job : Job). work job t) (sym (getD-take n jobs i blankJob l)))
+      ∙ ap (λ (m : ℕ). sumOver m a (λ i. work (jobAt (take n jobs) i) t)) (sym size-take)
+
 -- One of the two bounds of a table, as of the list that the table begins with.
 run-take : (n : ℕ) (jobs : List Job) (q : List ℕ) (s a : Set) (k : ℕ) → n ≤ length jobs → k < n
     → ((i : ℕ) → n ≤ i → s i ≡ false) → ((i : ℕ) → n ≤ i → a i ≡ false) → firstBound jobs q s a k ≡ firstBound (take n jobs) q s a k
-unfolding largestResponse finish demand layerShare interference otherQuanta
+unfolding largestResponse finish demand layerShare
 run-take n jobs q s a k h kn hs ha =
     ap₂ boundFor (fun-ext (λ own. fun-ext (same own))) (sym (getD-take n jobs k blankJob kn))
   where
-    size : length (take n jobs) ≡ n
-    size = length-take-le n jobs h
-
-    others : otherQuanta (length jobs) q s k ≡ otherQuanta (length (take n jobs)) q s k
-    others =
-        over-cut n (length jobs) (λ i. s i && not (eqb i k)) (λ i. getD q i 0) h
-        (λ i l il e. absurd (false≢true (sym (hs i l) ∙ other s k i e .0)))
-        ∙ ap (λ (m : ℕ). otherQuanta m q s k) (sym size)
-
-    above : (t : ℕ) → interference jobs a t ≡ interference (take n jobs) a t
-    above t =
-        over-cut n (length jobs) a (λ i. work (jobAt jobs i) t) h (λ i l il e. absurd (false≢true (sym (ha i l) ∙ e)))
-        ∙ over-same n a a _ (λ i. work (jobAt (take n jobs) i) t) (λ i l. refl) (λ i l e. ap (λ (job : Job). work job t) (sym (getD-take n jobs i blankJob l)))
-        ∙ ap (λ (m : ℕ). sumOver m a (λ i. work (jobAt (take n jobs) i) t)) (sym size)
-
     same : (own t : ℕ) → demand jobs q s a k own t ≡ demand (take n jobs) q s a k own t
-    same own t = ap₂ (λ (x y : ℕ). own + ceilDiv own (getD q k 0) * x + y) others (above t)
+    same own t = ap₂ (λ (x y : ℕ). own + ceilDiv own (getD q k 0) * x + y) (others-take n jobs h q s k hs) (interference-take n jobs h a ha t)
 
 -- The bound sees a table as it sees the list that the table begins with, if the sets have no place past it.
 pub bound-take : (n : ℕ) (jobs : List Job) (q : List ℕ) (s a : Set) (k : ℕ) → n ≤ length jobs → k < n

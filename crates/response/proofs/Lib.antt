@@ -3,5 +3,7 @@ pub mod Least
 pub mod Runs
 pub mod Lesser
 pub mod Easier
+pub mod Breakdown
 pub mod Undelayed
 pub mod Worked
+pub mod BreakdownWorked

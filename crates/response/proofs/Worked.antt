@@ -9,10 +9,10 @@ use Rattle.records.specs.declared.job.Job.{Job}
 use Rattle.response.specs.Demand.{ceilDiv, work, interference, otherQuanta, layerShare, demand, least, finish, plusDelay, Reached, none, larger, run, largestResponse, firstBound, secondBound, bound}
 
 -- A job with its delay, C, T and D, and one without delay.
-late : ℕ → ℕ → ℕ → ℕ → Job
+unfoldable pub late : ℕ → ℕ → ℕ → ℕ → Job
 late delay cost period deadline = record { id = 1; delay = delay; cost = cost; period = period; deadline = deadline }
 
-pub job : ℕ → ℕ → ℕ → Job
+unfoldable pub job : ℕ → ℕ → ℕ → Job
 job cost period deadline = late 0 cost period deadline
 
 -- The jobs, their quanta, the numbers of the layer and of the set above, and what the job at place 1 is to have.
