@@ -1,13 +1,15 @@
 -- The iteration finds the least time that equals its demand, with any estimate that no such time lies below. Assumes nothing.
 use mathlib.Core.Path.{_≡_, refl, sym, _∙_, ap, ap₂}
 use mathlib.Core.Bool.{Bool, cond}
+use mathlib.Core.List.{List}
 use Prim.Native.Nat.{ℕ, zero, suc, _+_, _*_, _/_, _≤_, _<_, max}
 use native.Mathlib.Decide.{decLe, ℕ-discrete}
 use native.Mathlib.Omega.{arith}
 use borrow.Author.Tests.{eq-eqb, ne-eqb, le-leb, lt-leb, lt-ltb, le-ltb}
 use Rattle.sets.specs.Sets.{Set}
-use Rattle.response.specs.Demand.{least}
-use Rattle.finishes.specs.Finishes.{Table, whole, steps, climb, farTime, timeFrom, timeFor, longestTime, timeWithin}
+use Rattle.records.specs.declared.job.Job.{Job}
+use Rattle.response.specs.Demand.{interference, least}
+use Rattle.finishes.specs.Finishes.{Table, whole, steps, climb, farTime, timeFrom, timeFor, longestTime, timeWithin, workBy}
 use Rattle.response.proofs.Least.{Rising, least-found, least-is, least-none, covered}
 
 module _ (f g : ℕ → ℕ) (d : ℕ) where
@@ -182,6 +184,13 @@ module _ (w : Table) (above : Set) (spare carry own d before : ℕ) where
 
   pub within-limit : d ≤ longestTime → timeWithin w above spare carry own d before ≡ timeFor w above spare carry own d before
   within-limit h = ap (λ (b : Bool). cond b (timeFor w above spare carry own d before) 0) (le-leb d longestTime h)
+
+module _ (jobs : List Job) (set : Set) (t : ℕ) where
+  pub work-past : longestTime < t → workBy jobs set t ≡ 0
+  work-past h = ap (λ (b : Bool). cond b (interference jobs set t) 0) (lt-leb t longestTime h)
+
+  pub work-within : t ≤ longestTime → workBy jobs set t ≡ interference jobs set t
+  work-within h = ap (λ (b : Bool). cond b (interference jobs set t) 0) (le-leb t longestTime h)
 
 -- An answer of the code for an own demand and a limit, told of numbers that are equal to them.
 pub time-answered : (w : Table) (above : Set) (spare carry before : ℕ) {own own′ d d′ r : ℕ} → r ≡ timeWithin w above spare carry own d before → d ≤ longestTime

@@ -109,3 +109,7 @@ longestTime = 4194240
 -- What the code answers: the time, or 0 where the limit is past the last time that is sought.
 abbrev pub timeWithin : Table → Set → ℕ → ℕ → ℕ → ℕ → ℕ → ℕ
 timeWithin table above spare carry own d before = cond (leb d longestTime) (timeFor table above spare carry own d before) 0
+
+-- The same of the work of a set's jobs by a time.
+abbrev pub workBy : List Job → Set → ℕ → ℕ
+workBy jobs set t = cond (leb t longestTime) (interference jobs set t) 0

@@ -2,7 +2,7 @@
 ghost use mathlib.Core.Path.{_≡_};
 ghost use Prim.Native.Nat.{_≤_, min};
 ghost use Rattle.sets.specs.Sets.{has};
-ghost use Rattle.finishes.specs.Finishes.{whole, utilisation, spareOf, carried};
+ghost use Rattle.finishes.specs.Finishes.{whole, utilisation, utilisationsOf, spareOf, carried};
 use records::job::Job;
 
 // The whole processor, in the parts by which utilisation is counted.
@@ -29,6 +29,19 @@ pub fn utilisation(job: Job) -> u32
         return 0;
     }
     at_most((job.cost as u64) * WHOLE / (job.period as u64), WHOLE) as u32
+}
+
+// The utilisation of each job of a table. No entry; it judges nothing.
+pub fn utilisations_of(jobs: [Job; Job::MOST]) -> [u32; Job::MOST]
+    ensures { λ r. ⌜ r ≡ utilisationsOf jobs ⌝ }
+{
+    let mut utilisations = [0u32; Job::MOST];
+    let mut i = 0;
+    while i < Job::MOST {
+        utilisations[i] = utilisation(jobs[i]);
+        i += 1;
+    }
+    utilisations
 }
 
 // What a set of jobs leaves of the processor, and what their delays add at least to their work, in parts of a tick.

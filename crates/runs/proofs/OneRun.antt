@@ -79,16 +79,29 @@ module _ (jobs : List Job) (q : List ℕ) (s a : Set) (k : ℕ) where
       let more : suc j * job .cost ≤ suc (suc j) * job .cost = mul-le-mul-right (job .cost) (omega arith) in
       omega (arith, more, mul-le-mul-right others (ceil-mono (suc j * job .cost) (suc (suc j) * job .cost) quantum more))
 
+  -- The finish of an instance as it is found from a time on.
+  abbrev pub foundFrom : ℕ → ℕ → ℕ
+  foundFrom =
+      finishBy (tableOf jobs) a (spareOf (utilisationsOf jobs) a) (carried (tableOf jobs) a) quantum others (job .cost) (job .period) (job .deadline) (job .delay)
+
+  -- A time from which the finish of instance j may be sought: the start of time, and the finish of the instance before.
+  abbrev pub MayStart : ℕ → ℕ → Type 0
+  MayStart j b = Below (λ t. own j + interference jobs a t) (limit j) b
+
+  pub starts-at-zero : MayStart 0 0
+  starts-at-zero = below-zero _ _
+
+  pub starts-at-finish : (j : ℕ) → 0 < finish jobs q s a k j → MayStart (suc j) (finish jobs q s a k j)
+  starts-at-finish j p = rw (finish-is j) (starts-later jobs a (own j) (limit j) (own (suc j)) (limit (suc j)) (own-mono j) (rw (finish-is j) at p))
+
+  pub finish-found : (j b : ℕ) → MayStart j b → foundFrom j b ≡ finish jobs q s a k j
+  unfolding finishBy
+  finish-found j b g = time-least jobs a (own j) (limit j) b g ∙ sym (finish-is j)
+
   pub largest-found : largestBy (tableOf jobs) a (spareOf (utilisationsOf jobs) a) (carried (tableOf jobs) a) quantum others job ≡ firstBound jobs q s a k
-  unfolding largestResponse finishBy
+  unfolding largestResponse
   largest-found =
-      run-found
-      (finishBy (tableOf jobs) a (spareOf (utilisationsOf jobs) a) (carried (tableOf jobs) a) quantum others (job .cost) (job .period) (job .deadline) (job .delay))
-      (job .delay) (job .period) (finish jobs q s a k)
-      (λ j b. Below (λ t. own j + interference jobs a t) (limit j) b)
-      (λ j b g. time-least jobs a (own j) (limit j) b g ∙ sym (finish-is j))
-      (λ j p. rw (finish-is j) (starts-later jobs a (own j) (limit j) (own (suc j)) (limit (suc j)) (own-mono j) (rw (finish-is j) at p)))
-      mostInstances 0 0 none (below-zero _ _)
+      run-found foundFrom (job .delay) (job .period) (finish jobs q s a k) MayStart finish-found starts-at-finish mostInstances 0 0 none starts-at-zero
 
   -- A layer that asks for more than is spare: each instance that finishes does so past its next release.
   runs-past : 0 < quantum → job .period * quantum * spareOf (utilisationsOf jobs) a < job .cost * (quantum + others) * whole

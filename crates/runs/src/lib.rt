@@ -12,7 +12,7 @@ use finishes::finish;
 use records::job::Job;
 
 // The most instances that a bound goes over.
-const INSTANCES: u32 = 64;
+pub const INSTANCES: u32 = 64;
 
 // Whether the layer asks for more than is spare of the processor: then no instance finishes by its next release.
 fn runs_on(spare: u64, quantum: u8, others: u16, job: Job) -> bool
@@ -37,18 +37,17 @@ fn cycles_of(work: u32, quantum: u8) -> u32
     (work + (quantum as u32 - 1)) / (quantum as u32)
 }
 
-// The own demand of so many instances of a job: their work, and the layer's share for it.
-fn own_demand(cost: u32, count: u32, quantum: u8, others: u16) -> u64
-    requires { ⌜ (cost < 2 ^ 16) × (count ≤ 64) ⌝ }
+// The own demand of so many instances of a job: their work, and the layer's share for it. No entry; it judges nothing.
+pub fn own_demand(cost: u16, count: u8, quantum: u8, others: u16) -> u64
     ensures { λ r. ⌜ r ≡ ownDemand quantum others (count * cost) ⌝ }
 {
-    let work = count * cost;
+    let work = (count as u32) * (cost as u32);
     let cycles = cycles_of(work, quantum);
     work as u64 + (cycles as u64) * (others as u64)
 }
 
-// a less b; 0 where b is more.
-fn less(a: u32, b: u32) -> u32
+// a less b; 0 where b is more. No entry.
+pub fn less(a: u32, b: u32) -> u32
     ensures { λ r. ⌜ r ≡ a - b ⌝ }
 {
     if a < b {
@@ -71,7 +70,7 @@ fn largest_response(
 ) -> u16
     ensures { λ r. ⌜ r ≡ largestBy (record { jobs = jobs; utilisations = utilisations }) (has above) spare carry quantum others job ⌝ }
 {
-    let cost = job.cost as u32;
+    let cost = job.cost;
     let period = job.period as u32;
     let deadline = job.deadline as u32;
     let delay = job.delay as u32;
@@ -80,7 +79,7 @@ fn largest_response(
     let mut instance: u32 = 0;
     while instance < INSTANCES {
         let release = instance * period;
-        let own = own_demand(cost, instance + 1, quantum, others);
+        let own = own_demand(cost, (instance + 1) as u8, quantum, others);
         let limit = less(release + deadline, delay);
         let finish = finish::time_for(jobs, utilisations, above, spare, carry, own, limit, before);
         if finish == 0 {

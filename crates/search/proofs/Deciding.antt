@@ -80,7 +80,7 @@ within-every p r h = go (within p r) refl
     go false e = sym (back _ refl e)
 
 module _ (layer above k : ℕ) (l : k < mostJobs) where
-  neighbours-set : has (remove layer k) ≡ neighbours (has layer) k
+  pub neighbours-set : has (remove layer k) ≡ neighbours (has layer) k
   neighbours-set = fun-ext (λ i. has-remove layer k i l ∙ ap (λ (b : Bool). has layer i && not b) (eqb-swap k i))
 
   pub with-set : has (join above (remove layer k)) ≡ withNeighbours (has layer) (has above) k

@@ -1,4 +1,4 @@
 // The search for bounds: the bound of a job in a layer with a set above, the lesser of two.
-mod quanta;
+pub mod quanta;
 mod unassignable;
 pub mod workload;

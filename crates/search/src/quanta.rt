@@ -5,8 +5,8 @@ ghost use Rattle.records.specs.Limits.{mostJobs};
 ghost use Rattle.response.specs.Demand.{otherQuanta};
 use records::job::Job;
 
-// The sum of the quanta of the layer's other jobs.
-pub(crate) fn other_quanta(quanta: [u8; Job::MOST], layer: u8, job: usize) -> u16
+// The sum of the quanta of the layer's other jobs. No entry; it judges nothing.
+pub fn other_quanta(quanta: [u8; Job::MOST], layer: u8, job: usize) -> u16
     ensures { λ r. ⌜ r ≡ otherQuanta mostJobs quanta (has layer) job ⌝ }
 {
     let others = sets::remove(layer, job);

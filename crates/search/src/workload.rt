@@ -37,8 +37,8 @@ fn first_decides(unassignable: u8, layer: u8, above: u8, job: usize) -> bool
     )
 }
 
-// The lesser of two bounds, one that is 0 giving way to the other.
-fn lesser(first: u16, second: u16) -> u16
+// The lesser of two bounds, one that is 0 giving way to the other. No entry.
+pub fn lesser(first: u16, second: u16) -> u16
     ensures { λ r. ⌜ r ≡ lesser first second ⌝ }
 {
     if second == 0 {
@@ -58,12 +58,7 @@ impl Workload {
     pub fn plain(jobs: [Job; Job::MOST]) -> Workload
         ensures { λ r. ⌜ r ≡ plainWorkload jobs ⌝ }
     {
-        let mut utilisations = [0u32; Job::MOST];
-        let mut i = 0;
-        while i < Job::MOST {
-            utilisations[i] = capacity::utilisation(jobs[i]);
-            i += 1;
-        }
+        let utilisations = capacity::utilisations_of(jobs);
         Workload {
             jobs,
             utilisations,
