@@ -10,7 +10,7 @@ use lib.ListN.{length, getD, take, List·getD-eq-default}
 use lib.Seq.{length-take-le, getD-take}
 use borrow.Author.Tests.{eq-eqb, ne-eqb, lt-ltb, le-ltb}
 use Rattle.sets.specs.Places.{every}
-use Rattle.sets.specs.Sets.{has, Collects}
+use Rattle.sets.specs.Sets.{Set, has, Collects}
 use Rattle.sets.proofs.Places.{list-at, list-length, list-same, every-same}
 use Rattle.records.specs.Limits.{mostJobs}
 use Rattle.records.specs.Records.{wordBytes, table, written}
@@ -50,10 +50,10 @@ quantum-at settings i = elim (decLe (suc i) (length settings)) [
 -- ---- the bounds see a table as they see the list that it begins with
 
 module _ (jobs : List Job) (a b : List Setting) (same : (i : ℕ) → i < length jobs → settingAt a i ≡ settingAt b i) where
-  level-same : (i : ℕ) → i < length jobs → levelAt a i ≡ levelAt b i
+  pub level-same : (i : ℕ) → i < length jobs → levelAt a i ≡ levelAt b i
   level-same i l = ap (λ (s : Setting). s .level) (same i l)
 
-  quantum-same : (i : ℕ) → i < length jobs → getD (quantaOf a) i 0 ≡ getD (quantaOf b) i 0
+  pub quantum-same : (i : ℕ) → i < length jobs → getD (quantaOf a) i 0 ≡ getD (quantaOf b) i 0
   quantum-same i l = quantum-at a i ∙ ap (λ (s : Setting). s .quantum) (same i l) ∙ sym (quantum-at b i)
 
   bound-settings : (k : ℕ) → k < length jobs → boundAt jobs a k ≡ boundAt jobs b k
@@ -88,16 +88,22 @@ module _ (jobs : List Job) (settings : List Setting) (m : ℕ) (size : length jo
   marked-table output =
       ap (λ (l : List ℕ). written boundSize wordBytes l output) (take-table mostJobs 0 m bounds (list-length (boundAt jobs settings) (length jobs) ∙ size))
 
+-- ---- a set of the first n jobs: it has no place past them, and there it is what it collects
+
+module _ (n : ℕ) (set : Set) (number : ℕ) (is : Collects n set number) where
+  pub none-past : (i : ℕ) → n ≤ i → has number i ≡ false
+  none-past i l = is i ∙ ap (λ (b : Bool). b && set i) (le-ltb i n l)
+
+  pub as-collected : (i : ℕ) → i < n → has number i ≡ set i
+  as-collected i l = is i ∙ ap (λ (b : Bool). b && set i) (lt-ltb i n l)
+
 -- ---- the bound as the code finds it, from the numbers of the layer and of the set above
 
 module _ (w : Workload) (whole : w ≡ plainWorkload (w .jobs)) (settings : List Setting) (n k : ℕ) (size : n ≤ length (w .jobs)) (kn : k < n) (level : ℕ) (own : level ≡ levelAt settings k)
     (layer above : ℕ) (layer-is : Collects n (layerOf settings level) layer) (above-is : Collects n (aboveOf settings level) above)
   where
-    past : (i : ℕ) (x : Bool) → n ≤ i → (ltb i n && x) ≡ false
-    past i x l = ap (λ (b : Bool). b && x) (le-ltb i n l)
-
-    here : (i : ℕ) (x : Bool) → i < length (take n (w .jobs)) → (ltb i n && x) ≡ x
-    here i x l = ap (λ (b : Bool). b && x) (lt-ltb i n (omega (arith, length-take-le n (w .jobs) size)))
+    below : (i : ℕ) → i < length (take n (w .jobs)) → i < n
+    below i l = omega (arith, length-take-le n (w .jobs) size)
 
     pub bound-code : (level ≡ 0 → ⊥) → boundBy w (quantaOf settings) (has layer) (has above) k ≡ boundAt (take n (w .jobs)) settings k
     bound-code e =
@@ -105,7 +111,8 @@ module _ (w : Workload) (whole : w ≡ plainWorkload (w .jobs)) (settings : List
         let v = levelAt settings k in
         ap (λ (x : Workload). boundBy x (quantaOf settings) (has layer) (has above) k) whole
         ∙ bound-plain (w .jobs) (quantaOf settings) (has layer) (has above) k
-        ∙ bound-take n (w .jobs) (quantaOf settings) (has layer) (has above) k size kn (λ i l. layer-is i ∙ past i _ l) (λ i l. above-is i ∙ past i _ l)
+        ∙ bound-take n (w .jobs) (quantaOf settings) (has layer) (has above) k size kn (none-past n _ layer layer-is) (none-past n _ above above-is)
         ∙ bound-same jobs k (quantaOf settings) (quantaOf settings) (has layer) (layerOf settings v) (has above) (aboveOf settings v) refl (λ i l x. refl)
-        (λ i l. layer-is i ∙ here i _ l ∙ ap (λ (x : ℕ). layerOf settings x i) own) (λ i l. above-is i ∙ here i _ l ∙ ap (λ (x : ℕ). aboveOf settings x i) own)
+        (λ i l. as-collected n _ layer layer-is i (below i l) ∙ ap (λ (x : ℕ). layerOf settings x i) own)
+        (λ i l. as-collected n _ above above-is i (below i l) ∙ ap (λ (x : ℕ). aboveOf settings x i) own)
         ∙ sym (bound-placed jobs settings k (λ z. e (own ∙ z)))

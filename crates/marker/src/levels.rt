@@ -1,6 +1,6 @@
 // The bound of a job, by the levels of a table of settings.
 ghost use mathlib.Core.Path.{_≡_};
-ghost use Prim.Native.Nat.{_≤_, _<_};
+ghost use Prim.Native.Nat.{_≤_, _<_, min};
 ghost use lib.ListN.{take};
 ghost use Rattle.sets.specs.Sets.{Collects};
 ghost use Rattle.records.specs.Limits.{mostJobs};
@@ -27,14 +27,14 @@ fn stands(relation: Relation, level: u8, to: u8) -> bool
     }
 }
 
-// The set of the first n jobs whose level stands so to another.
-fn level_set(relation: Relation, settings: [Setting; Job::MOST], n: usize, level: u8) -> u8
-    requires { ⌜ n ≤ mostJobs ⌝ }
-    ensures { λ r. ⌜ Collects n (stands relation settings level) r ⌝ }
+// The set of the first n jobs whose level stands so to another. No entry; it judges nothing, and for n past 8 it takes all 8 settings.
+pub fn level_set(relation: Relation, settings: [Setting; Job::MOST], n: usize, level: u8) -> u8
+    ensures { λ r. ⌜ Collects (min n mostJobs) (stands relation settings level) r ⌝ }
 {
+    let count = Job::at_most(n);
     let mut set: u8 = 0;
     let mut i = 0;
-    while i < n {
+    while i < count {
         let setting = settings[i];
         if stands(relation, setting.level, level) {
             let more = sets::insert(set, i);
@@ -45,8 +45,8 @@ fn level_set(relation: Relation, settings: [Setting; Job::MOST], n: usize, level
     set
 }
 
-// The quanta of a configuration.
-fn quanta_of(settings: [Setting; Job::MOST]) -> [u8; Job::MOST]
+// The quanta of a configuration. No entry; it judges nothing.
+pub fn quanta_of(settings: [Setting; Job::MOST]) -> [u8; Job::MOST]
     ensures { λ r. ⌜ r ≡ quantaOf settings ⌝ }
 {
     let mut quanta = [0u8; Job::MOST];

@@ -8,7 +8,7 @@ use records::refusal::Verdict;
 
 pub mod block;
 mod bytes;
-mod levels;
+pub mod levels;
 pub mod table;
 
 // What the marker answers.

@@ -1,12 +1,13 @@
-use Prim.Native.Nat.{ℕ}
-use mathlib.Core.Path.{_≡_, refl, sym, ap, _∙_}
+use Prim.Native.Nat.{ℕ, min}
+use mathlib.Core.Path.{_≡_, refl, sym, ap, subst, _∙_}
 use mathlib.Core.List.{List}
 use native.Mathlib.Omega.{arith}
 use lib.ListN.{length, take, length-map}
-use Rattle.sets.specs.Sets.{has}
+use Rattle.sets.specs.Sets.{has, Collects}
 use Rattle.records.specs.Limits.{mostJobs}
 use Rattle.configuration.specs.Settings.{levelAt}
 use Rattle.search.specs.Search.{boundBy}
+use Rattle.marker.specs.Bounds.{layerOf, aboveOf}
 use Rattle.marker.proofs.Configured.{bound-unplaced, bound-code}
 use borrow.Author.Needs.{needs}
 use Rattle.marker.proofs.levels.bound_of.Statement.{statement}
@@ -42,9 +43,13 @@ returns-2 c =
     let p = l .before .before .before in
     let a = p .args in
     let long : length (a .workload .jobs) ≡ mostJobs = simp length-map at (p .good .0 .1 .1 .0 .1 .0 .1) in
+    let cut : min (a .n) mostJobs ≡ a .n = omega (arith, p .pre .0) in
+    let level = levelAt (a .t2) (a .k) in
     c .bound .ensures
     ∙ ap (λ (q : List ℕ). boundBy (a .workload) q (has (l .level-set .result)) (has (above .result)) (a .k)) (c .before .quanta-of .ensures)
-    ∙ bound-code (a .workload) (p .pre .2) (a .t2) (a .n) (a .k) (omega arith) (p .pre .1) (levelAt (a .t2) (a .k)) refl (l .level-set .result) (above .result) (l .level-set .ensures) (above .ensures) (l .before .if1 .left)
+    ∙ bound-code (a .workload) (p .pre .2) (a .t2) (a .n) (a .k) (omega arith) (p .pre .1) level refl (l .level-set .result) (above .result)
+    (subst (λ (m : ℕ). Collects m (layerOf (a .t2) level) (l .level-set .result)) cut (l .level-set .ensures))
+    (subst (λ (m : ℕ). Collects m (aboveOf (a .t2) level) (above .result)) cut (above .ensures)) (l .before .if1 .left)
 
 pub bound-of-spec : {M : Type 1} → statement M
 bound-of-spec =

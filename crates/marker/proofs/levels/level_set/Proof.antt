@@ -1,19 +1,23 @@
-use Prim.Native.Nat.{ℕ, _≤_, _-_}
+use Prim.Native.Nat.{ℕ, _≤_, _-_, min}
 use mathlib.Core.Path.{_≡_, subst, _∙_}
 use mathlib.Core.Logic.{⊎-elim}
 use native.Mathlib.Omega.{arith}
 use Rattle.sets.specs.Sets.{Set, Collects}
 use Rattle.sets.proofs.Members.{collect-none, collect-in, collect-out}
+use Rattle.records.specs.Limits.{mostJobs}
 use Rattle.marker.specs.Relations.{stands}
 use borrow.Author.Needs.{needs}
 use Rattle.marker.proofs.levels.level_set.Statement.{statement}
 use Rattle.marker.proofs.levels.level_set.Tie as tie
 
 abbrev Inv-loop : tie.InvT-loop
-Inv-loop relation n level settings set₀ i₀ set i = (i ≤ n) × Collects i (stands relation settings level) set
+Inv-loop relation n level settings count set₀ i₀ set i = (i ≤ count) × Collects i (stands relation settings level) set
 
 abbrev μ-loop : tie.MeasureT-loop
-μ-loop relation n level settings set₀ i₀ set i = n - i
+μ-loop relation n level settings count set₀ i₀ set i = count - i
+
+at-most-requires : tie.Need-at-most-requires Inv-loop μ-loop
+at-most-requires c κs = search needs
 
 loop-holds : tie.Need-loop-holds Inv-loop μ-loop
 loop-holds c = (search needs, collect-none _)
@@ -39,7 +43,7 @@ loop-less c = search needs
 loop-again : tie.Need-loop-again Inv-loop μ-loop
 loop-again c =
     let l = c .before .before .before .before .loop in
-    let a = c .before .before .before .before .before .args in
+    let a = c .before .before .before .before .before .before .args in
     let test = c .before .stands .ensures in
     let set : Set = stands (a .relation) (a .t2) (a .level) in (
       search needs,
@@ -52,8 +56,9 @@ loop-again c =
 returns : tie.Need-returns Inv-loop μ-loop
 returns c =
     let l = c .before .loop in
-    let a = c .before .before .args in
-    let e : l .i ≡ a .n = omega arith in
+    let cut = c .before .before .at-most .ensures in
+    let a = c .before .before .before .args in
+    let e : l .i ≡ min (a .n) mostJobs = omega (arith, l .inv .0, c .loop-test .left, cut) in
     subst (λ (k : ℕ). Collects k (stands (a .relation) (a .t2) (a .level)) (l .set)) e (l .inv .1)
 
 pub level-set-spec : {M : Type 1} → statement M
@@ -62,6 +67,7 @@ level-set-spec =
     (tie.spec
     Inv-loop
     μ-loop
+    at-most-requires
     loop-holds
     mul-setting
     array-copy-out-setting
