@@ -1,0 +1,2 @@
+pub mod Breakdowns
+pub mod Promises

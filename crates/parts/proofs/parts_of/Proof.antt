@@ -1,0 +1,164 @@
+use Prim.Native.Nat.{ℕ, _≤_, _<_}
+use mathlib.Core.Path.{_≡_, refl, sym, _∙_, ap, ap₂}
+use mathlib.Core.Logic.{_≢_}
+use mathlib.Core.List.{List}
+use native.Mathlib.Omega.{arith}
+use lib.ListN.{length, getD}
+use borrow.Author.Needs.{needs}
+use Rattle.sets.specs.Sets.{Set, has, join}
+use Rattle.records.specs.Limits.{mostJobs}
+use Rattle.records.specs.Jobs.{jobAt}
+use Rattle.response.specs.Demand.{otherQuanta, firstBound, withNeighbours, only, secondBound, lesser, bound}
+use Rattle.response.proofs.Easier.{others-alone, only-alone}
+use Rattle.response.proofs.Breakdown.{parts-none, parts-first, parts-second, second-decides}
+use Rattle.finishes.specs.Finishes.{utilisationsOf}
+use Rattle.runs.specs.Runs.{runBound}
+use Rattle.runs.proofs.OneRun.{run-bound}
+use Rattle.search.specs.Search.{plainWorkload}
+use Rattle.search.proofs.BothBounds.{bound-plain, by-past}
+use Rattle.search.proofs.Deciding.{with-set}
+use Rattle.parts.proofs.parts_of.Statement.{statement}
+use Rattle.parts.proofs.parts_of.Tie as tie
+
+returns : tie.Need-returns
+returns c =
+    let a = c .before .args in
+    let s = has (a .layer) in
+    let o = has (a .above) in
+    let eight : length (a .t1) ≡ mostJobs = search needs in
+    let past : length (a .t1) ≤ a .job = omega (arith, c .if1 .taken) in
+    sym (parts-none (a .t1) (a .t2) s o (a .job)
+    (sym (bound-plain (a .t1) (a .t2) s o (a .job)) ∙ by-past (plainWorkload (a .t1)) (a .t2) s o (a .job) past))
+
+mul-entry : tie.Need-mul-entry
+mul-entry c = search needs
+
+array-copy-out-entry : tie.Need-array-copy-out-entry
+array-copy-out-entry c = search needs
+
+array-read-quantum : tie.Need-array-read-quantum
+array-read-quantum c = search needs
+
+utilisations-of-requires : tie.Need-utilisations-of-requires
+utilisations-of-requires c κs = search needs
+
+other-quanta-requires : tie.Need-other-quanta-requires
+other-quanta-requires c κs = search needs
+
+remove-requires : tie.Need-remove-requires
+remove-requires c κs = search needs
+
+join-requires : tie.Need-join-requires
+join-requires c κs = search needs
+
+run-bound-requires : tie.Need-run-bound-requires
+run-bound-requires c κs = search needs
+
+run-bound-requires-2 : tie.Need-run-bound-requires-2
+run-bound-requires-2 c κs = search needs
+
+lesser-requires : tie.Need-lesser-requires
+lesser-requires c κs = search needs
+
+-- After the lesser of the two bounds: each is the definition's.
+module _ (c : tie.After-lesser) where
+  abbrev u : tie.After-utilisations-of
+  u = c .before .before .before .before .before .before
+
+  abbrev start : tie.Start
+  start = u .before .before .before
+
+  abbrev s : Set
+  s = has (start .args .layer)
+
+  abbrev o : Set
+  o = has (start .args .above)
+
+  place : start .args .job < mostJobs
+  place = omega (arith, u .before .before .if1 .left)
+
+  -- One of the two, from the utilisations, a set above and a sum of other quanta.
+  one-bound : (layer above rest : Set) (others : ℕ) → rest ≡ above → others ≡ otherQuanta (length (start .args .t1)) (start .args .t2) layer (start .args .job)
+      → let a = start .args in
+      runBound (record { jobs = a .t1; utilisations = u .utilisations-of .result }) rest (getD (a .t2) (a .job) 0) others (jobAt (a .t1) (a .job))
+      ≡ firstBound (a .t1) (a .t2) layer above (a .job)
+  one-bound layer above rest others e f =
+      let a = start .args in
+      let go : List ℕ → Set → ℕ → ℕ = λ x r y. runBound (record { jobs = a .t1; utilisations = x }) r (getD (a .t2) (a .job) 0) y (jobAt (a .t1) (a .job)) in
+      ap₂ (λ (x : List ℕ) (r : Set). go x r others) (u .utilisations-of .ensures) e ∙ ap (go (utilisationsOf (a .t1)) above) f ∙ run-bound (a .t1) (a .t2) layer above (a .job)
+
+  first : let a = start .args in c .before .before .run-bound .result ≡ firstBound (a .t1) (a .t2) s o (a .job)
+  first =
+      let a = start .args in
+      let eight : length (a .t1) ≡ mostJobs = search needs in
+      let others = c .before .before .before .before .before .other-quanta in
+      c .before .before .run-bound .ensures ∙ one-bound s o o _ refl (others .ensures ∙ ap (λ (n : ℕ). otherQuanta n (a .t2) s (a .job)) (sym eight))
+
+  second : let a = start .args in c .before .run-bound2 .result ≡ secondBound (a .t1) (a .t2) s o (a .job)
+  second =
+      let a = start .args in
+      let all = c .before .before .before .join in
+      let beside = c .before .before .before .before .remove in
+      c .before .run-bound2 .ensures
+      ∙ one-bound (only (a .job)) (withNeighbours s o (a .job)) (has (all .result)) 0
+      (ap has (all .ensures ∙ ap (join (a .above)) (beside .ensures)) ∙ with-set (a .layer) (a .above) (a .job) place)
+      (sym (others-alone (length (a .t1)) (a .job) (a .t2) (only (a .job)) (only-alone (length (a .t1)) (a .job))))
+
+  is-bound : let a = start .args in c .lesser .result ≡ bound (a .t1) (a .t2) s o (a .job)
+  unfolding bound
+  is-bound = c .lesser .ensures ∙ ap₂ lesser first second
+
+  not-first : let a = start .args in c .lesser .result ≢ c .before .before .run-bound .result → bound (a .t1) (a .t2) s o (a .job) ≢ firstBound (a .t1) (a .t2) s o (a .job)
+  not-first d e = d (is-bound ∙ e ∙ sym first)
+
+returns-2 : tie.Need-returns-2
+returns-2 c =
+    let l = c .before in
+    let a = start l .args in
+    sym (parts-none (a .t1) (a .t2) (s l) (o l) (a .job) (sym (is-bound l) ∙ c .if2 .taken))
+
+first-parts-requires : tie.Need-first-parts-requires
+first-parts-requires c κs =
+    let l = c .before .before in
+    (u l .utilisations-of .ensures, place l, omega (arith, c .before .if2 .left), c .if3 .taken ∙ first l)
+
+returns-3 : tie.Need-returns-3
+returns-3 c =
+    let l = c .before .before .before in
+    let a = start l .args in
+    c .first-parts .ensures
+    ∙ sym (parts-first (a .t1) (a .t2) (s l) (o l) (a .job) (λ z. c .before .before .if2 .left (is-bound l ∙ z)) (sym (is-bound l) ∙ c .before .if3 .taken ∙ first l))
+
+second-parts-requires : tie.Need-second-parts-requires
+second-parts-requires c κs =
+    let l = c .before .before in
+    let a = start l .args in
+    (u l .utilisations-of .ensures, place l, omega (arith, c .before .if2 .left), is-bound l ∙ second-decides (a .t1) (a .t2) (s l) (o l) (a .job) (not-first l (c .if3 .left)))
+
+returns-4 : tie.Need-returns-4
+returns-4 c =
+    let l = c .before .before .before in
+    let a = start l .args in
+    c .second-parts .ensures
+    ∙ sym (parts-second (a .t1) (a .t2) (s l) (o l) (a .job) (λ z. c .before .before .if2 .left (is-bound l ∙ z)) (not-first l (c .before .if3 .left)))
+
+pub parts-of-spec : {M : Type 1} → statement M
+parts-of-spec =
+    tie.close
+    (tie.spec
+    returns
+    mul-entry
+    array-copy-out-entry
+    array-read-quantum
+    utilisations-of-requires
+    other-quanta-requires
+    remove-requires
+    join-requires
+    run-bound-requires
+    run-bound-requires-2
+    lesser-requires
+    returns-2
+    first-parts-requires
+    returns-3
+    second-parts-requires
+    returns-4)
