@@ -29,7 +29,7 @@ use Rattle.marker.specs.Bounds.{quantaOf, layerOf, aboveOf, boundAt}
 use Rattle.marker.specs.Marks.{boundSize, marked, boundsRoom, boundsTests, boundsOutcome}
 use Rattle.marker.proofs.Configured.{bound-unplaced, bound-placed}
 use Rattle.breakdown.specs.Breakdowns.{partsIn, breakdownOf, partsSize, partsBytes, partsAtStart, breakdownIn, brokenDown, breakdownTests, breakdownOutcome}
-use Rattle.breakdown.specs.Promises.{PartsOf, Held, Promise}
+use Rattle.breakdown.specs.Promises.{PartsOf, Held, BreakdownPromise}
 use Rattle.breakdown.proofs.Placed.{parts-unplaced, parts-placed}
 
 -- ---- the record
@@ -134,7 +134,7 @@ module _ (jobs : List ℕ) (low high : ℕ) (configuration : List ℕ) (room : �
 
 -- Whatever is the outcome of breakdown keeps its promise.
 pub breakdown-promise : (jobs : List ℕ) (low high : ℕ) (configuration output : List ℕ) (got : Answer (Unit {0}) × List ℕ)
-    → got ≡ breakdownOutcome jobs low high configuration output → Promise jobs low high configuration output got
+    → got ≡ breakdownOutcome jobs low high configuration output → BreakdownPromise jobs low high configuration output got
 unfolding breakdownOutcome
 breakdown-promise jobs low high configuration output got e = record { is = e; held = held; bounds = λ f room h. same-bounds jobs low high configuration (length output) (told f .0) room h }
   where

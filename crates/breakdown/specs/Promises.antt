@@ -33,7 +33,7 @@ pub record Held (jobs : List Job) (settings : List Setting) (held : List Parts) 
 
 -- What breakdown promises: its outcome; and of every accepted call the above of the records at the start of the output, the bounds being
 -- those that `bounds` writes for the same blocks and range.
-pub record Promise (jobs : List ℕ) (low high : ℕ) (configuration output : List ℕ) (got : Answer (Unit {0}) × List ℕ) : Type 0 where
+pub record BreakdownPromise (jobs : List ℕ) (low high : ℕ) (configuration output : List ℕ) (got : Answer (Unit {0}) × List ℕ) : Type 0 where
   pub is : got ≡ breakdownOutcome jobs low high configuration output
   pub held : got .0 ≡ given tt
       → let n = length (jobList jobs) in

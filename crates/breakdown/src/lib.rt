@@ -1,6 +1,6 @@
 // Where the ticks of a configuration's bounds go (02, E6).
 ghost use Rattle.records.specs.Refusals.{verdict};
-ghost use Rattle.breakdown.specs.Promises.{Promise};
+ghost use Rattle.breakdown.specs.Promises.{BreakdownPromise};
 use records::refusal::Counted;
 use records::refusal::Verdict;
 
@@ -10,7 +10,7 @@ pub mod table;
 
 // The parts of the bounds of a configuration block, full or not, in the output.
 pub fn breakdown(jobs: &[u8], low: u8, high: u8, configuration: &[u8], output: &mut [u8]) -> Verdict
-    ensures { λ r. ⌜ Promise (now (jobs .entry)) low high (now (configuration .entry)) (now (output .entry)) (verdict r, now (output .exit)) ⌝ }
+    ensures { λ r. ⌜ BreakdownPromise (now (jobs .entry)) low high (now (configuration .entry)) (now (output .entry)) (verdict r, now (output .exit)) ⌝ }
 {
     let call = records::call::read_call(jobs, low, high);
     let answer = call.answer;

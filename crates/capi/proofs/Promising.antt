@@ -8,12 +8,13 @@ use Rattle.records.specs.declared.refusal.Verdict.{Verdict}
 use Rattle.records.specs.declared.refusal.Verdict.the-variants.{Accepted, Refused as NotAccepted}
 use Rattle.records.proofs.Outcomes.{number-byte}
 use Rattle.kernel.specs.Promises.{ToKernelPromise, FromKernelPromise}
+use Rattle.breakdown.specs.Promises.{BreakdownPromise}
 use Rattle.planner.specs.declared.PlanAnswer.{PlanAnswer}
 use Rattle.planner.specs.declared.PlanAnswer.the-variants.{Planned, Refused}
 use Rattle.planner.specs.Plans.{planAnswer, answered, HeldIn, Promise}
 use Rattle.planner.proofs.Holding.{told-byte}
-use Rattle.capi.specs.Words.{word, noValue, planValue}
-use Rattle.capi.specs.Promises.{WordPromise, priority, ToKernelWord, FromKernelWord}
+use Rattle.capi.specs.Words.{word, inWords, noValue, planValue}
+use Rattle.capi.specs.Promises.{WordPromise, BreakdownWord, priority, ToKernelWord, FromKernelWord}
 use Rattle.capi.proofs.Worded.{worded}
 
 module _ (jobs : List ℕ) (low high : ℕ) (configuration bounds : List ℕ) (after : List ℕ × List ℕ) (w : ℕ) where
@@ -36,6 +37,14 @@ module _ (jobs : List ℕ) (low high : ℕ) (configuration bounds : List ℕ) (a
 done : (v : Verdict) (w : ℕ) → w ≡ word noValue (verdict v) → w ≡ 0 → verdict v ≡ given tt
 done Accepted w e z = refl
 done (NotAccepted refusal) w e z = absurd (omega (arith, number-byte refusal))
+
+pub breakdown-word : (jobs : List ℕ) (low high : ℕ) (configuration output after : List ℕ) (v : Verdict) (w : ℕ) → w ≡ word noValue (verdict v)
+    → BreakdownPromise jobs low high configuration output (verdict v, after) → BreakdownWord jobs low high configuration output w after
+breakdown-word jobs low high configuration output after v w e promised = record {
+  is = worded noValue e (promised .is);
+  held = λ z. promised .held (done v w e z);
+  bounds = λ z room h. ap (inWords noValue) (promised .bounds (done v w e z) room h);
+}
 
 module _ (jobs : List ℕ) (low high lowest highest : ℕ) (block output after : List ℕ) (v : Verdict) (w : ℕ) (e : w ≡ word noValue (verdict v)) where
   pub to-kernel-word : ToKernelPromise jobs low high (priority lowest) (priority highest) block output (verdict v, after) → ToKernelWord jobs low high lowest highest block output w after

@@ -59,6 +59,11 @@ pub fn bounds(jobs: &[u8], low: u8, high: u8, configuration: &[u8], output: &mut
     reply::write_one(reply::judged(answer), output);
 }
 
+pub fn breakdown(jobs: &[u8], low: u8, high: u8, configuration: &[u8], output: &mut [u8]) {
+    let answer = breakdown::breakdown(jobs, low, high, configuration, &mut *output);
+    reply::write_one(reply::judged(answer), output);
+}
+
 pub fn mark(jobs: &[u8], low: u8, high: u8, configuration: &[u8], output: &mut [u8]) {
     let answer = marker::mark(jobs, low, high, configuration, &mut *output);
     let told = match answer {

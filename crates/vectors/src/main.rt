@@ -63,6 +63,7 @@ fn call(entry: u8, numbers: [u16; USED], a: &[u8], b: &mut [u8], c: &mut [u8]) {
         10 => calls::key(a, low, high),
         11 => calls::to_kernel(a, low, high, lowest, highest, b, c),
         12 => calls::from_kernel(a, low, high, lowest, highest, b, c),
+        13 => calls::breakdown(a, low, high, b, c),
         _ => {}
     }
 }
