@@ -1,7 +1,8 @@
-//! The entries of the scope document with its change requests E1, E2, E4 and E5 as plain functions,
-//! written by direct reading and exhaustive search, and the generation of cases with their expected
-//! answers.
+//! The entries of the scope document with its change requests E1, E2, E4, E5 and E6 as plain
+//! functions, written by direct reading and exhaustive search, and the generation of cases with
+//! their expected answers.
 
+pub mod breakdown;
 pub mod configuration;
 pub mod desk;
 pub mod entries;
@@ -16,6 +17,7 @@ pub mod quanta;
 pub mod refusal;
 pub mod response_time;
 
+pub use breakdown::breakdown;
 pub use configuration::{read_configuration, same_bytes, write_configuration};
 pub use desk::edit;
 pub use jobs::{read_jobs, write_jobs};

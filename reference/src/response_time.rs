@@ -33,9 +33,10 @@ pub struct Run {
     pub last_instance: u64,
     /// The latest finish found, 0 if instance 0 has none.
     pub finish: u64,
-    /// The largest response found, and the first instance that has it.
+    /// The largest response found, and the first instance that has it with its finish.
     pub largest_response: u64,
     pub largest_instance: u64,
+    pub largest_finish: u64,
 }
 
 impl Run {
@@ -56,16 +57,21 @@ impl Run {
         if response > self.largest_response {
             self.largest_response = response;
             self.largest_instance = self.last_instance;
+            self.largest_finish = finish;
         }
     }
 }
 
-/// "its own C; the cycles, C divided by its quantum and rounded up, times the sum of the other
-/// quanta in its layer", an instance having "own work (j+1)·C" in place of C, and "its cycles are
-/// taken of that work": the demand of a policy 2 job's layer, which is the same at every time.
+/// "the cycles, C divided by its quantum and rounded up, times the sum of the other quanta in its
+/// layer", an instance having "own work (j+1)·C" in place of C, and "its cycles are taken of that
+/// work": what a policy 2 job's neighbours add, which is the same at every time.
+fn round_robin_share(own_work: u64, quantum: u8, other_quanta: u64) -> u64 {
+    own_work.div_ceil(u64::from(quantum)) * other_quanta
+}
+
+/// "its own C", or own work, and the share of the others: the demand of a policy 2 job's layer.
 pub fn round_robin_demand(own_work: u64, quantum: u8, other_quanta: u64) -> u64 {
-    let cycles = own_work.div_ceil(u64::from(quantum));
-    own_work + cycles * other_quanta
+    own_work + round_robin_share(own_work, quantum, other_quanta)
 }
 
 /// "t + J divided by its T, rounded up, as in equation (10) of source document 004", "times that
@@ -80,12 +86,12 @@ pub fn total_interference(above: &[Job], time: u64) -> u64 {
     above.iter().map(|job| interference(job, time)).sum()
 }
 
-/// The demand of the job's own layer on own work: the work, and for policy 2 the cycles of the
-/// layer's others. Delays play no part in it.
-pub fn layer_demand(settings: &[Setting], index: usize, own_work: u64) -> u64 {
+/// What the layer's others add to own work in the first bound: their cycles, and 0 for policy 1.
+/// Delays play no part in it.
+pub fn layer_share(settings: &[Setting], index: usize, own_work: u64) -> u64 {
     let own = &settings[index];
     if own.policy == FIFO {
-        return own_work;
+        return 0;
     }
     let mut other_quanta = 0;
     for (other_index, other) in settings.iter().enumerate() {
@@ -93,7 +99,12 @@ pub fn layer_demand(settings: &[Setting], index: usize, own_work: u64) -> u64 {
             other_quanta += u64::from(other.quantum);
         }
     }
-    round_robin_demand(own_work, own.quantum, other_quanta)
+    round_robin_share(own_work, own.quantum, other_quanta)
+}
+
+/// The demand of the job's own layer on own work.
+pub fn layer_demand(settings: &[Setting], index: usize, own_work: u64) -> u64 {
+    own_work + layer_share(settings, index, own_work)
 }
 
 /// The jobs above a placed job. "A job not placed counts as above every placed one": its level is
@@ -144,6 +155,7 @@ pub fn run_of_job(
         finish: 0,
         largest_response: 0,
         largest_instance: 0,
+        largest_finish: 0,
     };
     for instance in 0..INSTANCES {
         run.last_instance = instance;

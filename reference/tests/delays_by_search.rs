@@ -3,7 +3,7 @@
 mod common;
 
 use common::comparisons::{assert_same_runs, plan_by_both_rules};
-use common::{any_list, bound_of_instances, near_full_list, two_bounds_by};
+use common::{any_delayed_list, bound_of_instances, near_full_list, two_bounds_by};
 use reference::configuration::{Setting, NOT_PLACED, ROUND_ROBIN};
 use reference::generation::delays::has_delay;
 use reference::generation::effects::{without_delays, without_own_delay};
@@ -43,20 +43,6 @@ fn first_bound_before_delays(jobs: &[Job], settings: &[Setting], index: usize) -
         }
     }
     0
-}
-
-/// A list with short times, its settings and its delays. Some delays are above periods and above
-/// deadlines.
-fn any_delayed_list(random: &mut Random) -> (Vec<Job>, Vec<Setting>) {
-    let longest = random.choose(&[5, 12, 30]);
-    let (mut jobs, settings) = any_list(random, longest, |random, cost, period| {
-        random.ticks(cost, 8 * period)
-    });
-    let most = random.choose(&[1, 4, 12, 60]);
-    for job in &mut jobs {
-        job.delay = random.byte(0, most);
-    }
-    (jobs, settings)
 }
 
 #[test]

@@ -4,15 +4,19 @@ mod common;
 
 use common::{block_of_jobs, delayed_jobs, job_block};
 use reference::entries::{
-    answer, BOUNDS, EDIT, ENTRIES, FROM_KERNEL, KEY, MARK, PLAN, READ_CONFIGURATION, READ_JOBS,
-    SAME_BYTES, TO_KERNEL, WRITE_CONFIGURATION, WRITE_JOBS,
+    answer, BOUNDS, BREAKDOWN, EDIT, ENTRIES, FROM_KERNEL, KEY, MARK, PLAN, READ_CONFIGURATION,
+    READ_JOBS, SAME_BYTES, TO_KERNEL, WRITE_CONFIGURATION, WRITE_JOBS,
 };
 use reference::frames::Frame;
 
-/// The passing configuration of the second worked list, its bounds, and its kernel records for
-/// priorities up to 99.
+/// The passing configuration of the second worked list, its bounds, their breakdown, and its kernel
+/// records for priorities up to 99.
 const SETTINGS: [u8; 8] = [1, 2, 2, 3, 2, 2, 2, 1];
 const BOUNDS_OF_JOBS: [u8; 4] = [0, 8, 0, 20];
+const BROKEN_DOWN: [u8; 44] = [
+    0, 1, 0, 0, 0, 6, 0, 0, 0, 2, 0, 0, 0, 0, 0, 0, 0, 0, 0, 0, 0, 0, // the first job
+    0, 1, 0, 0, 0, 5, 0, 0, 0, 15, 0, 0, 0, 0, 0, 0, 0, 0, 0, 0, 0, 0, // the second job
+];
 const KERNEL: [u8; 8] = [1, 2, 98, 3, 2, 2, 98, 1];
 
 /// The job block of the second worked list.
@@ -44,11 +48,13 @@ fn frame(head: u8, numbers: &[u16], blocks: Vec<Vec<u8>>) -> Frame {
 
 /// Input frames on the second worked list, range 1 to 4, priorities 1 to 99, for all entries in
 /// order.
-fn input_frames() -> [Frame; 12] {
+fn input_frames() -> [Frame; 13] {
     let (jobs, settings, range) = (jobs(), SETTINGS.to_vec(), [1, 4]);
     let (kernel, range_and_priorities) = (KERNEL.to_vec(), [1, 4, 1, 99]);
     let lent = output(&[], 20);
     let configured = vec![jobs.clone(), settings.clone(), lent.clone()];
+    let in_kernel = vec![jobs.clone(), kernel, lent.clone()];
+    let broken_down = vec![jobs.clone(), settings.clone(), output(&[], 46)];
     [
         frame(READ_JOBS, &[], vec![jobs.clone()]),
         frame(WRITE_JOBS, &[2], vec![table(&jobs, 64), lent.clone()]),
@@ -73,12 +79,13 @@ fn input_frames() -> [Frame; 12] {
         frame(EDIT, &[1, 7, 256, 9], vec![jobs.clone()]),
         frame(KEY, &range, vec![jobs.clone()]),
         frame(TO_KERNEL, &range_and_priorities, configured),
-        frame(FROM_KERNEL, &range_and_priorities, vec![jobs, kernel, lent]),
+        frame(FROM_KERNEL, &range_and_priorities, in_kernel),
+        frame(BREAKDOWN, &range, broken_down),
     ]
 }
 
 /// The output frames of these input frames.
-fn output_frames() -> [Frame; 12] {
+fn output_frames() -> [Frame; 13] {
     let mut edited = jobs();
     edited[10..].copy_from_slice(&[0, 7, 1, 0, 0, 9]);
     let text = b"1 2 2 3 8\n2 2 2 1 20\nplaced 2 of 2\n";
@@ -99,13 +106,14 @@ fn output_frames() -> [Frame; 12] {
         frame(0, &[], vec![text.to_vec()]),
         frame(0, &[], vec![output(&KERNEL, 20)]),
         frame(0, &[], vec![output(&SETTINGS, 20)]),
+        frame(0, &[], vec![output(&BROKEN_DOWN, 46)]),
     ]
 }
 
 #[test]
-fn entries_have_the_numbers_1_to_12() {
+fn entries_have_the_numbers_1_to_13() {
     let numbers: Vec<u8> = ENTRIES.iter().map(|entry| entry.number).collect();
-    assert_eq!(numbers, [1, 2, 3, 4, 5, 6, 7, 8, 9, 10, 11, 12]);
+    assert_eq!(numbers, [1, 2, 3, 4, 5, 6, 7, 8, 9, 10, 11, 12, 13]);
     assert_eq!(input_frames().map(|input| input.head), numbers[..]);
 }
 
@@ -126,7 +134,7 @@ fn refused_calls_answer_no_numbers_and_leave_what_is_lent() {
             READ_JOBS => frame(3, &[], vec![table(&[], 64)]),
             READ_CONFIGURATION => frame(3, &[], vec![table(&[], 32)]),
             WRITE_JOBS => frame(3, &[], before[1..].to_vec()),
-            WRITE_CONFIGURATION | BOUNDS | MARK | TO_KERNEL | FROM_KERNEL => {
+            WRITE_CONFIGURATION | BOUNDS | MARK | TO_KERNEL | FROM_KERNEL | BREAKDOWN => {
                 frame(3, &[], before[2..].to_vec())
             }
             PLAN => frame(3, &[], before[1..].to_vec()),
@@ -188,7 +196,7 @@ fn records_of_jobs_have_the_delay_in_their_second_byte() {
 
 #[test]
 fn frames_of_no_entry_have_no_answer() {
-    for number in [0, 13, 255] {
+    for number in [0, 14, 255] {
         assert_eq!(answer(&frame(number, &[1, 4], vec![jobs()])), None);
     }
 }
@@ -221,9 +229,10 @@ fn frames_with_other_parts_than_the_entry_is_given_have_no_answer() {
 fn frames_with_parts_that_the_entry_cannot_be_given_have_no_answer() {
     let [_, write, read_configuration, write_configuration, bounds, mark, plan, _, edit, key, ..] =
         input_frames();
-    let [.., to_kernel, from_kernel] = input_frames();
+    let [.., to_kernel, from_kernel, breakdown] = input_frames();
     let ranged = [read_configuration, bounds, mark, plan, key.clone()];
-    for ranged in ranged.into_iter().chain([to_kernel, from_kernel]) {
+    let further = [to_kernel, from_kernel, breakdown];
+    for ranged in ranged.into_iter().chain(further) {
         for place in 0..ranged.numbers.len() {
             let mut changed = ranged.clone();
             changed.numbers[place] = 256;

@@ -7,8 +7,8 @@ use common::{job_block, jobs, setting_block, SettingNumbers};
 use reference::configuration::{setting_of_record, Setting};
 use reference::jobs::{Job, MOST_JOBS};
 use reference::{
-    bounds, edit, mark, plan, read_configuration, read_jobs, write_configuration, write_jobs,
-    Refusal,
+    bounds, breakdown, edit, mark, plan, read_configuration, read_jobs, write_configuration,
+    write_jobs, Refusal,
 };
 
 /// The bytes that every lent output holds before a call.
@@ -38,8 +38,9 @@ fn number<T>(answer: Result<T, Refusal>) -> u8 {
     answer.map_or_else(Refusal::number, |_| 0)
 }
 
-/// The refusals of reading jobs, reading the configuration, bounds, marking and planning.
-fn answers(call: &Call) -> [u8; 5] {
+/// The refusals of reading jobs, reading the configuration, bounds, their breakdown, marking and
+/// planning.
+fn answers(call: &Call) -> [u8; 6] {
     let Call {
         block,
         low,
@@ -50,23 +51,26 @@ fn answers(call: &Call) -> [u8; 5] {
     let (low, high) = (*low, *high);
     let mut lent = [vec![LENT; *output], vec![LENT; *output]];
     let before = lent.clone();
-    let mut numbers = [0; 5];
+    let mut numbers = [0; 6];
     numbers[0] = number(read_jobs(block).0);
     numbers[1] = number(read_configuration(block, low, high, settings).0);
     numbers[2] = number(bounds(block, low, high, settings, &mut lent[0]));
     assert!(numbers[2] == 0 || lent == before);
     let before = lent.clone();
-    numbers[3] = number(mark(block, low, high, settings, &mut lent[0]));
+    numbers[3] = number(breakdown(block, low, high, settings, &mut lent[0]));
     assert!(numbers[3] == 0 || lent == before);
     let before = lent.clone();
-    let [first, second] = &mut lent;
-    numbers[4] = number(plan(block, low, high, first, second));
+    numbers[4] = number(mark(block, low, high, settings, &mut lent[0]));
     assert!(numbers[4] == 0 || lent == before);
+    let before = lent.clone();
+    let [first, second] = &mut lent;
+    numbers[5] = number(plan(block, low, high, first, second));
+    assert!(numbers[5] == 0 || lent == before);
     numbers
 }
 
 /// The answers after a change to the accepted call.
-fn changed(change: impl Fn(&mut Call)) -> [u8; 5] {
+fn changed(change: impl Fn(&mut Call)) -> [u8; 6] {
     let mut call = accepted();
     change(&mut call);
     answers(&call)
@@ -74,40 +78,40 @@ fn changed(change: impl Fn(&mut Call)) -> [u8; 5] {
 
 #[test]
 fn the_accepted_call_has_no_refusal() {
-    assert_eq!(changed(|_| {}), [0; 5]);
+    assert_eq!(changed(|_| {}), [0; 6]);
 }
 
 #[test]
 fn refusals_of_the_job_block() {
-    assert_eq!(changed(|call| call.block.clear()), [1; 5]);
-    assert_eq!(changed(|call| call.block.push(0)), [1; 5]);
-    assert_eq!(changed(|call| call.block[8] = 0), [2; 5]);
-    assert_eq!(changed(|call| call.block[9] = 1), [0; 5]);
-    assert_eq!(changed(|call| call.block[9] = 255), [0; 5]);
+    assert_eq!(changed(|call| call.block.clear()), [1; 6]);
+    assert_eq!(changed(|call| call.block.push(0)), [1; 6]);
+    assert_eq!(changed(|call| call.block[8] = 0), [2; 6]);
+    assert_eq!(changed(|call| call.block[9] = 1), [0; 6]);
+    assert_eq!(changed(|call| call.block[9] = 255), [0; 6]);
     assert_eq!(
         changed(|call| (call.block[8], call.block[9]) = (0, 1)),
-        [2; 5]
+        [2; 6]
     );
-    assert_eq!(changed(|call| call.block[8] = 1), [3; 5]);
-    assert_eq!(changed(|call| call.block[3] = 0), [5; 5]);
-    assert_eq!(changed(|call| call.block[3] = 9), [5; 5]);
-    assert_eq!(changed(|call| call.block[5] = 5), [5; 5]);
-    assert_eq!(changed(|call| call.block[7] = 9), [0; 5]);
-    assert_eq!(changed(|call| call.block[6] = 0xff), [5; 5]);
-    assert_eq!(changed(|call| call.block[12] = 0xff), [5; 5]);
+    assert_eq!(changed(|call| call.block[8] = 1), [3; 6]);
+    assert_eq!(changed(|call| call.block[3] = 0), [5; 6]);
+    assert_eq!(changed(|call| call.block[3] = 9), [5; 6]);
+    assert_eq!(changed(|call| call.block[5] = 5), [5; 6]);
+    assert_eq!(changed(|call| call.block[7] = 9), [0; 6]);
+    assert_eq!(changed(|call| call.block[6] = 0xff), [5; 6]);
+    assert_eq!(changed(|call| call.block[12] = 0xff), [5; 6]);
 }
 
 #[test]
 fn refusals_of_the_range() {
     for (low, high) in [(0, 4), (5, 4), (1, 65), (0, 0), (65, 65)] {
         let numbers = changed(|call| (call.low, call.high) = (low, high));
-        assert_eq!(numbers, [0, 6, 6, 6, 6]);
+        assert_eq!(numbers, [0, 6, 6, 6, 6, 6]);
     }
 }
 
 #[test]
 fn refusals_of_the_configuration() {
-    let of_settings = |number| [0, number, number, number, 0];
+    let of_settings = |number| [0, number, number, number, number, 0];
     let set = |settings: [SettingNumbers; 2]| {
         changed(move |call| call.settings = setting_block(&settings))
     };
@@ -132,14 +136,16 @@ fn refusals_of_the_configuration() {
     assert_eq!(set([[1, 2, 2, 3], [2, 2, 1, 0]]), of_settings(10));
     assert_eq!(set([[1, 1, 2, 3], [2, 2, 2, 1]]), of_settings(10));
     assert_eq!(set([[1, 1, 2, 3], [2, 0, 0, 0]]), of_settings(10));
-    assert_eq!(set([[1, 1, 1, 0], [2, 0, 0, 0]]), [0, 0, 0, 11, 0]);
+    assert_eq!(set([[1, 1, 1, 0], [2, 0, 0, 0]]), [0, 0, 0, 0, 11, 0]);
 }
 
 #[test]
 fn refusals_of_outputs() {
-    assert_eq!(changed(|call| call.output = 3), [0, 0, 12, 12, 12]);
-    assert_eq!(changed(|call| call.output = 4), [0, 0, 0, 0, 12]);
-    assert_eq!(changed(|call| call.output = 8), [0, 0, 0, 0, 0]);
+    assert_eq!(changed(|call| call.output = 3), [0, 0, 12, 12, 12, 12]);
+    assert_eq!(changed(|call| call.output = 4), [0, 0, 0, 12, 0, 12]);
+    assert_eq!(changed(|call| call.output = 8), [0, 0, 0, 12, 0, 0]);
+    assert_eq!(changed(|call| call.output = 43), [0, 0, 0, 12, 0, 0]);
+    assert_eq!(changed(|call| call.output = 44), [0; 6]);
     let block = accepted().block;
     let (mut long, mut short) = ([LENT; 8], [LENT; 3]);
     assert_eq!(number(plan(&block, 1, 4, &mut long, &mut short)), 12);
@@ -248,41 +254,41 @@ fn each_number_is_sought_through_all_records_before_the_next() {
     };
     assert_eq!(
         both([1, 0, 0, 0, 0, 8, 0, 8], [0, 1, 0, 5, 0, 9, 0, 9]),
-        [2; 5]
+        [2; 6]
     );
     assert_eq!(
         both([1, 0, 0, 0, 0, 8, 0, 8], [2, 1, 0, 5, 0, 9, 0, 9]),
-        [5; 5]
+        [5; 6]
     );
     assert_eq!(
         both([1, 0, 0, 0, 0, 8, 0, 8], [1, 0, 0, 5, 0, 9, 0, 9]),
-        [3; 5]
+        [3; 6]
     );
     assert_eq!(
         both([2, 0, 0, 1, 0, 8, 0, 8], [0, 0, 0, 5, 0, 9, 0, 9]),
-        [2; 5]
+        [2; 6]
     );
     let set = |first: SettingNumbers, second: SettingNumbers| {
         changed(move |call| call.settings = setting_block(&[first, second]))
     };
-    assert_eq!(set([1, 2, 3, 3], [3, 2, 2, 1]), [0, 8, 8, 8, 0]);
-    assert_eq!(set([1, 0, 0, 0], [2, 2, 2, 5]), [0, 9, 9, 9, 0]);
-    assert_eq!(set([1, 0, 0, 0], [2, 2, 2, 4]), [0, 10, 10, 10, 0]);
+    assert_eq!(set([1, 2, 3, 3], [3, 2, 2, 1]), [0, 8, 8, 8, 8, 0]);
+    assert_eq!(set([1, 0, 0, 0], [2, 2, 2, 5]), [0, 9, 9, 9, 9, 0]);
+    assert_eq!(set([1, 0, 0, 0], [2, 2, 2, 4]), [0, 10, 10, 10, 10, 0]);
 }
 
 #[test]
 fn the_job_block_is_judged_before_the_range_the_configuration_and_the_output() {
     let mut call = accepted();
     call.output = 0;
-    assert_eq!(answers(&call), [0, 0, 12, 12, 12]);
+    assert_eq!(answers(&call), [0, 0, 12, 12, 12, 12]);
     call.settings = setting_block(&[[1, 0, 0, 0], [2, 2, 1, 0]]);
-    assert_eq!(answers(&call), [0, 0, 12, 11, 12]);
+    assert_eq!(answers(&call), [0, 0, 12, 12, 11, 12]);
     call.settings.pop();
-    assert_eq!(answers(&call), [0, 7, 7, 7, 12]);
+    assert_eq!(answers(&call), [0, 7, 7, 7, 7, 12]);
     call.high = 65;
-    assert_eq!(answers(&call), [0, 6, 6, 6, 6]);
+    assert_eq!(answers(&call), [0, 6, 6, 6, 6, 6]);
     call.block[15] = 0;
-    assert_eq!(answers(&call), [5; 5]);
+    assert_eq!(answers(&call), [5; 6]);
     call.block.push(0);
-    assert_eq!(answers(&call), [1; 5]);
+    assert_eq!(answers(&call), [1; 6]);
 }

@@ -1,9 +1,8 @@
 //! Entry 5. Given: the lowest and the highest quantum; the job block, the configuration block, the
 //! output. Answered: no numbers; the output.
 
-use crate::entries::faults::{Fault, Faults};
-use crate::entries::{jobs_of_first_block, output_frame, Entry};
-use crate::frames::Frame;
+use crate::entries::faults::faults_of_configured;
+use crate::entries::{answer_of_configured, jobs_of_first_block, Entry};
 use crate::generation::call::{Form, Given, Lent, Range};
 use crate::response_time::{bounds, BOUND_BYTES};
 
@@ -12,8 +11,8 @@ pub const BOUNDS: u8 = 5;
 pub const ENTRY: Entry = Entry {
     number: BOUNDS,
     name: "bounds",
-    answer,
-    faults,
+    answer: |input| answer_of_configured(input, bounds),
+    faults: |input| faults_of_configured(input, BOUND_BYTES),
     jobs: jobs_of_first_block,
 };
 
@@ -28,18 +27,3 @@ pub const GIVEN: Given = Given {
         longest: 80,
     }],
 };
-
-fn answer(input: &Frame) -> Option<Frame> {
-    let ([lowest, highest], [jobs, configuration, output]) = input.parts()?;
-    let mut output = output.to_vec();
-    let answer = bounds(jobs, lowest, highest, configuration, &mut output);
-    Some(output_frame(answer.map(|()| []), [output]))
-}
-
-fn faults(input: &Frame) -> Option<Vec<Fault>> {
-    let ([lowest, highest], [jobs, configuration, output]) = input.parts()?;
-    let mut faults = Faults::default();
-    let (jobs, _) = faults.judge_configured(jobs, lowest, highest, configuration);
-    faults.judge_outputs(&[(output, BOUND_BYTES * jobs.len())]);
-    Some(faults.found())
-}

@@ -4,6 +4,7 @@ use crate::configuration::{
     judge_range, judge_setting_identity, judge_shapes, judge_sharing, settings_of_records,
     QuantumRange, Setting, SETTING_BYTES,
 };
+use crate::frames::Frame;
 use crate::jobs::{
     jobs_of_records, judge_block_length, judge_identity, judge_order, judge_times, Job,
 };
@@ -136,4 +137,14 @@ impl Faults {
         let mut outputs = outputs.iter();
         self.judge(outputs.try_for_each(|(output, need)| judge_output(output, *need)));
     }
+}
+
+/// The faults of a call that is given a range, a job block and a configuration block, and lent an
+/// output with a need of so many bytes for each job.
+pub fn faults_of_configured(input: &Frame, bytes_per_job: usize) -> Option<Vec<Fault>> {
+    let ([lowest, highest], [jobs, configuration, output]) = input.parts()?;
+    let mut faults = Faults::default();
+    let (jobs, _) = faults.judge_configured(jobs, lowest, highest, configuration);
+    faults.judge_outputs(&[(output, bytes_per_job * jobs.len())]);
+    Some(faults.found())
 }

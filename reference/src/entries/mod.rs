@@ -2,6 +2,7 @@
 //! generator of its cases where it has one of its own. The rows are listed here and nowhere else.
 
 pub mod bounds;
+pub mod breakdown;
 pub mod edit;
 pub mod faults;
 pub mod from_kernel;
@@ -16,6 +17,7 @@ pub mod write_configuration;
 pub mod write_jobs;
 
 pub use bounds::BOUNDS;
+pub use breakdown::BREAKDOWN;
 pub use edit::EDIT;
 pub use from_kernel::FROM_KERNEL;
 pub use key::KEY;
@@ -61,6 +63,7 @@ pub const ENTRIES: &[&Entry] = &[
     &key::ENTRY,
     &to_kernel::ENTRY,
     &from_kernel::ENTRY,
+    &breakdown::ENTRY,
 ];
 
 /// The place of the entry with a number among the entries.
@@ -102,6 +105,17 @@ fn output_frame<const NUMBERS: usize, const BLOCKS: usize>(
         numbers,
         blocks: blocks.to_vec(),
     }
+}
+
+/// A function that is given a job block, a range and a configuration block, and writes an output.
+type WriteConfigured = fn(&[u8], u8, u8, &[u8], &mut [u8]) -> Result<(), Refusal>;
+
+/// The output frame of a call of such a function, which answers no numbers.
+fn answer_of_configured(input: &Frame, write: WriteConfigured) -> Option<Frame> {
+    let ([lowest, highest], [jobs, configuration, output]) = input.parts()?;
+    let mut output = output.to_vec();
+    let answer = write(jobs, lowest, highest, configuration, &mut output);
+    Some(output_frame(answer.map(|()| []), [output]))
 }
 
 /// A number of a frame that the call takes in one byte.

@@ -2,14 +2,20 @@
 
 use std::fmt;
 
+use crate::breakdown::{breakdowns_of_records, Breakdown, BREAKDOWN_BYTES};
 use crate::configuration::{settings_of_records, QuantumRange, Setting, SETTING_BYTES};
-use crate::entries::{bounds, mark, plan, Entry, MARK, PLAN};
+use crate::entries::{bounds, breakdown, mark, plan, Entry, BREAKDOWN, MARK, PLAN};
 use crate::generation::Case;
 use crate::jobs::{jobs_of_records, Job};
 use crate::response_time::{bounds_of_records, BOUND_BYTES};
 
 /// The entries whose accepted cases are counted.
-const COUNTED: [&Entry; 3] = [&bounds::ENTRY, &mark::ENTRY, &plan::ENTRY];
+const COUNTED: [&Entry; 4] = [
+    &bounds::ENTRY,
+    &mark::ENTRY,
+    &plan::ENTRY,
+    &breakdown::ENTRY,
+];
 
 /// What an accepted case that is counted is about and answers.
 pub struct Answered {
@@ -34,12 +40,19 @@ impl Answered {
             PLAN => &output.blocks[0][..SETTING_BYTES * jobs.len()],
             _ => configuration,
         };
-        let bounds = &output.blocks.last()?[..BOUND_BYTES * jobs.len()];
+        let output_of = |bytes_per_job| Some(&output.blocks.last()?[..bytes_per_job * jobs.len()]);
+        let bounds = match input.head {
+            BREAKDOWN => {
+                let breakdowns = breakdowns_of_records(output_of(BREAKDOWN_BYTES)?);
+                breakdowns.iter().map(Breakdown::bound).collect()
+            }
+            _ => bounds_of_records(output_of(BOUND_BYTES)?),
+        };
         let answered = Answered {
             jobs,
             range: QuantumRange { lowest, highest },
             settings: settings_of_records(configuration),
-            bounds: bounds_of_records(bounds),
+            bounds,
             passes: input.head == MARK && output.numbers == [1],
         };
         Some((place, answered))

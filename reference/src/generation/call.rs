@@ -99,6 +99,11 @@ pub struct Call {
     pub output_lengths: Vec<usize>,
 }
 
+/// The input frame of an entry's call with accepted parts.
+pub fn accepted_input(random: &mut Random, given: &'static Given, parts: &Parts) -> Frame {
+    Call::new(random, given, parts).into_input(random)
+}
+
 /// A length from a need on: exact, one more, the longest, or any between.
 fn sufficient_length(random: &mut Random, need: usize, longest: usize) -> usize {
     match random.below(4) {

@@ -72,12 +72,24 @@ const LISTS: ListRule = ListRule {
 const TURNS_OF_EFFECTS: usize = 1_000;
 
 /// A list with delays of any kind, without regard to what they do.
-pub fn any_list_with_delays(random: &mut Random, count: usize) -> Vec<Job> {
+fn any_list_with_delays(random: &mut Random, count: usize) -> Vec<Job> {
     let mut jobs = any_list(random, count);
     if random.once_in(2) {
         jobs = with_long_deadlines(random, jobs);
     }
     with_delays(random, jobs)
+}
+
+/// A list of any kind with a configuration of any levels, which is full or not as it is drawn.
+pub fn any_parts(
+    random: &mut Random,
+    count: usize,
+    is_full: impl Fn(&mut Random) -> bool,
+) -> Parts {
+    let range = range(random);
+    let jobs = any_list_with_delays(random, count);
+    let full = is_full(random);
+    Parts::of_list(any_configured(random, jobs, range, full), range)
 }
 
 /// A list with a full configuration, in most cases one in which a delay has the effect in turn.
@@ -101,10 +113,7 @@ fn list_for_bounds(
 /// lists of entries that answer none are drawn without regard to it.
 fn configured(random: &mut Random, asked: &Asked, count: usize) -> Parts {
     if matches!(asked.given.entry, READ_CONFIGURATION | WRITE_CONFIGURATION) {
-        let range = range(random);
-        let jobs = any_list_with_delays(random, count);
-        let full = random.once_in(2);
-        return Parts::of_list(any_configured(random, jobs, range, full), range);
+        return any_parts(random, count, |random| random.once_in(2));
     }
     let range = uneven_range(random);
     let mut list = list_for_bounds(random, asked.turn, count, range);

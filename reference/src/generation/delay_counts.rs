@@ -3,7 +3,7 @@
 use std::fmt;
 
 use crate::configuration::NOT_PLACED;
-use crate::entries::{BOUNDS, ENTRIES, KEY, MARK, PLAN};
+use crate::entries::{BOUNDS, BREAKDOWN, ENTRIES, KEY, MARK, PLAN};
 use crate::frames::Frame;
 use crate::generation::by_entry::{Answered, ByEntry, Counts};
 use crate::generation::delays::{delays_change_bounds, delays_change_plan, has_delay};
@@ -71,7 +71,9 @@ pub struct DelayCounts {
 /// Whether the delays of an accepted case change the bounds that it answers, if it answers some.
 fn delays_matter(input: &Frame, jobs: &[Job], answered: Option<&Answered>) -> bool {
     match (input.head, answered) {
-        (BOUNDS | MARK, Some(answered)) => delays_change_bounds(jobs, &answered.settings),
+        (BOUNDS | MARK | BREAKDOWN, Some(answered)) => {
+            delays_change_bounds(jobs, &answered.settings)
+        }
         (PLAN, Some(answered)) => delays_change_plan(jobs, answered.range, &answered.bounds),
         (KEY, _) => delays_change_plan(jobs, KEY_RANGE, &plan_jobs(jobs, KEY_RANGE).bounds),
         _ => false,
@@ -105,7 +107,7 @@ impl fmt::Display for DelayCounts {
         )?;
         for (place, entry) in ENTRIES.iter().enumerate() {
             let mattering = match entry.number {
-                BOUNDS | MARK | PLAN | KEY => self.mattering[place].to_string(),
+                BOUNDS | MARK | PLAN | KEY | BREAKDOWN => self.mattering[place].to_string(),
                 _ => "no bounds".to_string(),
             };
             let (name, lists) = (entry.name, self.lists[place]);

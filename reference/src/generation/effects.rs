@@ -79,7 +79,7 @@ pub fn without_other_delays(jobs: &[Job], index: usize) -> Vec<Job> {
 }
 
 /// The list without the delays of a job's neighbours.
-fn without_neighbour_delays(jobs: &[Job], settings: &[Setting], index: usize) -> Vec<Job> {
+pub fn without_neighbour_delays(jobs: &[Job], settings: &[Setting], index: usize) -> Vec<Job> {
     let level = settings[index].level;
     without_delays_of(jobs, |other| {
         other != index && settings[other].level == level

@@ -72,6 +72,18 @@ fn chosen_faults(random: &mut Random, turn: usize, calls: &Calls) -> Vec<u8> {
     faults
 }
 
+/// The faults of the call that has this turn: each of an entry's refusals, in the order in which
+/// they are sought, alone and with each later one, all in turn.
+pub fn faults_in_turn(refusals: &[u8], turn: usize) -> Vec<u8> {
+    let mut choices = Vec::new();
+    for (place, first) in refusals.iter().enumerate() {
+        choices.push(vec![*first]);
+        let later = refusals[place + 1..].iter();
+        choices.extend(later.map(|later| vec![*first, *later]));
+    }
+    choices[turn % choices.len()].clone()
+}
+
 impl Asked {
     /// A number of jobs that leaves each fault in records a record of its own.
     pub fn job_count(&self, random: &mut Random) -> usize {
@@ -142,6 +154,18 @@ pub fn call_with_job_faults(
     call
 }
 
+/// The input of the call that is asked for, with these parts and all its faults.
+pub fn input_with_faults(
+    random: &mut Random,
+    asked: &Asked,
+    parts: &Parts,
+    bad_times: BadTimes,
+) -> Frame {
+    let mut call = call_with_job_faults(random, asked, parts, bad_times);
+    put_setting_faults(random, &mut call, &asked.faults);
+    call.into_input(random)
+}
+
 /// Gives a call that is to find a configuration a range that the search affords, if it has no
 /// fault. The one fault meant may be a deadline one above its period, or a delay, which are
 /// accepted.
@@ -160,9 +184,7 @@ pub fn job_call(random: &mut Random, turn: usize, rule: &CallRule, calls: &Calls
         faults: chosen_faults(random, turn, calls),
     };
     let parts = (rule.lists)(random).parts(random, &asked);
-    let mut call = call_with_job_faults(random, &asked, &parts, rule.bad_times);
-    put_setting_faults(random, &mut call, &asked.faults);
-    let mut input = call.into_input(random);
+    let mut input = input_with_faults(random, &asked, &parts, rule.bad_times);
     let may_be_narrowed = asked.given.is_to_plan() && asked.given.range == Range::Any;
     if may_be_narrowed && !asked.faults.is_empty() {
         make_affordable(&mut input, parts.range);

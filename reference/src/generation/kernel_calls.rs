@@ -5,13 +5,11 @@ use crate::configuration::setting_of_record;
 use crate::entries::{answer, from_kernel, to_kernel, FROM_KERNEL, TO_KERNEL};
 use crate::frames::Frame;
 use crate::generation::call::{Call, Given, Parts};
-use crate::generation::configured::any_configured;
-use crate::generation::delay_calls::any_list_with_delays;
-use crate::generation::job_calls::{call_with_job_faults, Asked};
+use crate::generation::delay_calls::any_parts;
+use crate::generation::job_calls::{call_with_job_faults, faults_in_turn, Asked};
 use crate::generation::job_faults::with_one_bad_time;
 use crate::generation::kernel_faults::{any_priorities, put_kernel_faults, with_too_few};
 use crate::generation::kernel_worked::{worked_from_kernel, worked_to_kernel};
-use crate::generation::lists::range;
 use crate::generation::random::Random;
 use crate::generation::rounds::{row, row_by_turn, Kind, Row};
 use crate::generation::setting_faults::put_setting_faults;
@@ -53,18 +51,6 @@ const ROUND: [Row; 8] = [
 const TO_KERNEL_REFUSALS: [u8; 12] = [1, 2, 3, 5, 6, 13, 7, 8, 9, 10, 11, 12];
 const FROM_KERNEL_REFUSALS: [u8; 12] = [1, 2, 3, 5, 6, 13, 7, 8, 14, 9, 10, 12];
 
-/// The faults of the call that has this turn: each refusal alone and with each later one, all in
-/// turn.
-fn faults_in_turn(refusals: &[u8], turn: usize) -> Vec<u8> {
-    let mut choices = Vec::new();
-    for (place, first) in refusals.iter().enumerate() {
-        choices.push(vec![*first]);
-        let later = refusals[place + 1..].iter();
-        choices.extend(later.map(|later| vec![*first, *later]));
-    }
-    choices[turn % choices.len()].clone()
-}
-
 /// A refusal, and each later one once in four times.
 fn first_and_some_later(random: &mut Random, refusals: &[u8], first: u8) -> Vec<u8> {
     let from_first = refusals.iter().skip_while(|refusal| **refusal != first);
@@ -76,10 +62,7 @@ fn first_and_some_later(random: &mut Random, refusals: &[u8], first: u8) -> Vec<
 /// A list with a configuration of any levels, full unless refusal 11 is wanted.
 fn parts(random: &mut Random, asked: &Asked) -> Parts {
     let count = asked.job_count(random);
-    let range = range(random);
-    let jobs = any_list_with_delays(random, count);
-    let full = asked.is_full(random, |_| true);
-    Parts::of_list(any_configured(random, jobs, range, full), range)
+    any_parts(random, count, |random| asked.is_full(random, |_| true))
 }
 
 /// Puts kernel records in place of the settings of a call.

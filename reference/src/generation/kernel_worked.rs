@@ -1,27 +1,13 @@
 //! Worked calls that convert configurations into kernel records and back: the second exam list's
 //! key, the edges of the priorities, each refusal alone, and records at the edges of refusals.
 
-use crate::configuration::QuantumRange;
 use crate::entries::{FROM_KERNEL, TO_KERNEL};
 use crate::frames::Frame;
-use crate::generation::lists::job_of_times;
 use crate::generation::random::Random;
-use crate::jobs::{records_of_jobs, Job};
-use crate::key::KEY_RANGE;
-
-/// A list of jobs: the id and the cost of each, and its period, which is its deadline.
-type List = &'static [(u8, u16, u16)];
-
-/// A worked call.
-struct Worked {
-    jobs: List,
-    quanta: QuantumRange,
-    /// The lowest and the highest priority.
-    priorities: [u8; 2],
-    records: &'static [[u8; 4]],
-    /// The length of the output.
-    lent: usize,
-}
+use crate::generation::worked::{
+    self, with_quanta, List, Worked, COST_0, EIGHT, FALLING, ID_0, KEY, NINE, NONE, ONE, SAME_ID,
+    TWO,
+};
 
 /// A worked call with the exam lists' range of quanta.
 const fn worked(
@@ -31,55 +17,10 @@ const fn worked(
     lent: usize,
 ) -> Worked {
     Worked {
-        jobs,
-        quanta: KEY_RANGE,
-        priorities,
-        records,
-        lent,
+        priorities: Some(priorities),
+        ..worked::worked(jobs, records, lent)
     }
 }
-
-/// The worked call with another range of quanta.
-const fn with_quanta(lowest: u8, highest: u8, call: Worked) -> Worked {
-    Worked {
-        quanta: QuantumRange { lowest, highest },
-        ..call
-    }
-}
-
-/// The first and the second exam list, and eight jobs.
-const ONE: List = &[(1, 2, 5)];
-const TWO: List = &[(1, 6, 8), (2, 5, 22)];
-const EIGHT: List = &[
-    (1, 1, 100),
-    (2, 1, 100),
-    (3, 1, 100),
-    (4, 1, 100),
-    (5, 1, 100),
-    (6, 1, 100),
-    (7, 1, 100),
-    (8, 1, 100),
-];
-
-/// No job, nine jobs, and lists with an id of 0, with the same id twice and with a cost of 0.
-const NONE: List = &[];
-const NINE: List = &[
-    (1, 1, 100),
-    (2, 1, 100),
-    (3, 1, 100),
-    (4, 1, 100),
-    (5, 1, 100),
-    (6, 1, 100),
-    (7, 1, 100),
-    (8, 1, 100),
-    (9, 1, 100),
-];
-const ID_0: List = &[(0, 6, 8), (2, 5, 22)];
-const SAME_ID: List = &[(1, 6, 8), (1, 5, 22)];
-const COST_0: List = &[(1, 6, 8), (2, 0, 22)];
-
-/// The second exam list's key: id, level, policy and quantum.
-const KEY: &[[u8; 4]] = &[[1, 2, 2, 3], [2, 2, 2, 1]];
 
 /// A level for each of eight jobs, the first job on the first level.
 const RISING: &[[u8; 4]] = &[
@@ -91,18 +32,6 @@ const RISING: &[[u8; 4]] = &[
     [6, 6, 1, 0],
     [7, 7, 1, 0],
     [8, 8, 1, 0],
-];
-
-/// Four layers of eight jobs, the first job on the last level; four levels are left out.
-const FALLING: &[[u8; 4]] = &[
-    [1, 8, 2, 1],
-    [2, 8, 2, 4],
-    [3, 5, 1, 0],
-    [4, 4, 2, 2],
-    [5, 4, 2, 3],
-    [6, 4, 2, 1],
-    [7, 1, 2, 4],
-    [8, 1, 2, 4],
 ];
 
 /// The calls towards the kernel.
@@ -235,29 +164,6 @@ const FROM_KERNEL_CALLS: [Worked; 48] = [
     with_quanta(1, 65, worked(TWO, [1, 99], KERNEL_KEY, 8)),
     with_quanta(0, 4, worked(TWO, [99, 1], KERNEL_KEY, 8)),
 ];
-
-impl Worked {
-    fn input(&self, random: &mut Random, entry: u8) -> Frame {
-        let mut jobs = Vec::new();
-        for (id, cost, period) in self.jobs {
-            jobs.push(Job {
-                id: *id,
-                ..job_of_times(*cost, *period, *period)
-            });
-        }
-        let [lowest, highest] = self.priorities;
-        let numbers = [self.quanta.lowest, self.quanta.highest, lowest, highest];
-        Frame {
-            head: entry,
-            numbers: numbers.map(u16::from).to_vec(),
-            blocks: vec![
-                records_of_jobs(&jobs),
-                self.records.concat(),
-                random.filled(self.lent),
-            ],
-        }
-    }
-}
 
 /// The worked call towards the kernel that has this turn.
 pub fn worked_to_kernel(random: &mut Random, turn: usize) -> Frame {

@@ -3,8 +3,7 @@
 
 use crate::configuration::{QuantumRange, LONGEST_QUANTUM};
 use crate::entries::{bounds, key, mark, plan, BOUNDS, KEY, MARK, PLAN};
-use crate::frames::Frame;
-use crate::generation::call::{Call, Given, Parts};
+use crate::generation::call::{accepted_input, Parts};
 use crate::generation::configured::leave_layer_out;
 use crate::generation::light_neighbours::list_with_situation;
 use crate::generation::lists::range;
@@ -26,20 +25,20 @@ const ROUND: [Row; 4] = [
         if random.once_in(6) {
             leave_layer_out(random, &mut parts.settings);
         }
-        call(random, &bounds::GIVEN, &parts)
+        accepted_input(random, &bounds::GIVEN, &parts)
     }),
     row(MARK, 22, |random, turn| {
         let parts = configured(random, turn);
-        call(random, &mark::GIVEN, &parts)
+        accepted_input(random, &mark::GIVEN, &parts)
     }),
     row(PLAN, 10, |random, turn| {
         let parts = planned(random, turn);
-        call(random, &plan::GIVEN, &parts)
+        accepted_input(random, &plan::GIVEN, &parts)
     }),
     row(KEY, 2, |random, turn| {
         let count = job_count(random);
         let list = list_with_situation(random, turn, count, KEY_RANGE);
-        call(random, &key::GIVEN, &Parts::of_jobs(list.jobs, KEY_RANGE))
+        accepted_input(random, &key::GIVEN, &Parts::of_jobs(list.jobs, KEY_RANGE))
     }),
 ];
 
@@ -79,8 +78,4 @@ fn planned(random: &mut Random, turn: usize) -> Parts {
     let jobs = list_with_situation(random, turn, count, range).jobs;
     let (range, _) = affordable(&jobs, range);
     Parts::of_jobs(jobs, range)
-}
-
-fn call(random: &mut Random, given: &'static Given, parts: &Parts) -> Frame {
-    Call::new(random, given, parts).into_input(random)
 }

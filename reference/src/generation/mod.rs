@@ -1,5 +1,8 @@
 //! The generation of cases: input frames for every entry, and their output frames.
 
+pub mod breakdown_calls;
+pub mod breakdown_lists;
+pub mod breakdown_worked;
 pub mod by_entry;
 pub mod call;
 pub mod configured;
@@ -7,6 +10,8 @@ pub mod delay_calls;
 pub mod delay_counts;
 pub mod delays;
 pub mod effects;
+pub mod feature_counts;
+pub mod features;
 pub mod job_calls;
 pub mod job_faults;
 pub mod kernel_calls;
@@ -29,7 +34,9 @@ pub mod short_deadline_calls;
 pub mod situation_counts;
 pub mod situations;
 pub mod summary;
+pub mod worked;
 
+pub use breakdown_calls::BREAKDOWNS;
 pub use delay_calls::DELAYS;
 pub use kernel_calls::KERNEL_RECORDS;
 pub use light_neighbour_calls::LIGHT_NEIGHBOURS;
@@ -54,6 +61,7 @@ pub const KINDS: &[&Kind] = &[
     &DELAYS,
     &LONG_BLOCKS,
     &KERNEL_RECORDS,
+    &BREAKDOWNS,
 ];
 
 /// The place of a case's kind among the kinds, and how many cases of that kind come before it.

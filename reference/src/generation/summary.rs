@@ -3,9 +3,10 @@
 use std::fmt;
 
 use crate::entries::faults::{Fault, Place};
-use crate::entries::{ENTRIES, KEY, PLAN};
+use crate::entries::{BREAKDOWN, ENTRIES, KEY, PLAN};
 use crate::generation::by_entry::{Answered, ByEntry, Counts};
 use crate::generation::delay_counts::DelayCounts;
+use crate::generation::feature_counts::FeatureCounts;
 use crate::generation::plan_counts::PlanCounts;
 use crate::generation::run_counts::RunCounts;
 use crate::generation::situation_counts::SituationCounts;
@@ -51,6 +52,7 @@ pub struct Summary {
     pub plans: PlanCounts,
     pub long_deadlines: ByEntry<RunCounts>,
     pub delays: DelayCounts,
+    pub breakdowns: FeatureCounts,
 }
 
 impl Summary {
@@ -85,8 +87,10 @@ impl Summary {
         if let Some((place, answered)) = Answered::of_case(case) {
             kind.neighbours.entries[place].count(&answered);
             self.long_deadlines.entries[place].count(&answered);
-            if input.head == PLAN {
-                self.plans.count(&answered);
+            match input.head {
+                PLAN => self.plans.count(&answered),
+                BREAKDOWN => self.breakdowns.count(&answered),
+                _ => {}
             }
         }
     }
@@ -176,6 +180,6 @@ impl fmt::Display for Summary {
                 neighbours.write(formatter, &format!("policy 2 jobs, {}", kind.name))?;
             }
         }
-        write!(formatter, "\n{}", self.delays)
+        write!(formatter, "\n{}\n{}", self.delays, self.breakdowns)
     }
 }

@@ -168,30 +168,45 @@ pub fn demand(jobs: &[Job], settings: &[Setting], index: usize, own_work: u64, t
     demand
 }
 
-/// The first bound by the text about instances, every time being tried from 1 on for every
-/// instance. The last time tried is above j·T + D for the short times of the lists that it is
-/// given.
-pub fn bound_of_instances(jobs: &[Job], settings: &[Setting], index: usize) -> u16 {
+/// The finishes of a job's instances by the text about the first bound, up to the one that closes
+/// the run, every time being tried from 1 on for every instance; none if the bound is 0. The last
+/// time tried is above j·T + D for the short times of the lists that it is given.
+pub fn finishes_of_instances(jobs: &[Job], settings: &[Setting], index: usize) -> Option<Vec<u64>> {
     let job = &jobs[index];
     let (period, deadline) = (u64::from(job.period), u64::from(job.deadline));
     let delay = u64::from(job.delay);
-    let mut largest = 0;
+    let mut finishes = Vec::new();
     for instance in 0..64 {
         let own_work = (instance + 1) * u64::from(job.cost);
         let equals = |time: &u64| demand(jobs, settings, index, own_work, *time) == *time;
-        let Some(finish) = (1..4_000).find(equals) else {
-            return 0;
-        };
-        let response = finish + delay - instance * period;
-        if response > deadline {
-            return 0;
+        let finish = (1..4_000).find(equals)?;
+        if finish + delay - instance * period > deadline {
+            return None;
         }
-        largest = largest.max(response);
+        finishes.push(finish);
         if finish + delay <= (instance + 1) * period {
-            return largest as u16;
+            return Some(finishes);
         }
     }
-    0
+    None
+}
+
+/// The responses of instances with these finishes.
+pub fn responses_of_finishes(job: &Job, finishes: &[u64]) -> Vec<u64> {
+    let releases = (0..).map(|instance| instance * u64::from(job.period));
+    let finishes = finishes.iter().zip(releases);
+    finishes
+        .map(|(finish, release)| finish + u64::from(job.delay) - release)
+        .collect()
+}
+
+/// The first bound by the text about instances.
+pub fn bound_of_instances(jobs: &[Job], settings: &[Setting], index: usize) -> u16 {
+    let Some(finishes) = finishes_of_instances(jobs, settings, index) else {
+        return 0;
+    };
+    let responses = responses_of_finishes(&jobs[index], &finishes);
+    responses.into_iter().max().unwrap_or(0) as u16
 }
 
 /// The bound of a policy 2 job as it would be with the lesser of the two finishes taken instance by
@@ -236,7 +251,7 @@ pub fn any_settings(random: &mut Random, count: usize) -> Vec<Setting> {
 
 /// The settings with a job alone on its level and its neighbours not placed, which makes them count
 /// as above it.
-fn with_neighbours_above(settings: &[Setting], index: usize) -> Vec<Setting> {
+pub fn with_neighbours_above(settings: &[Setting], index: usize) -> Vec<Setting> {
     let mut changed = settings.to_vec();
     for (other, setting) in changed.iter_mut().enumerate() {
         if other == index {
@@ -283,6 +298,20 @@ pub fn any_list(
         list.push((cost, period, deadline));
     }
     (jobs(&list), any_settings(random, count))
+}
+
+/// A list with short times, its settings and its delays. Some delays are above periods and above
+/// deadlines.
+pub fn any_delayed_list(random: &mut Random) -> (Vec<Job>, Vec<Setting>) {
+    let longest = random.choose(&[5, 12, 30]);
+    let (mut jobs, settings) = any_list(random, longest, |random, cost, period| {
+        random.ticks(cost, 8 * period)
+    });
+    let most = random.choose(&[1, 4, 12, 60]);
+    for job in &mut jobs {
+        job.delay = random.byte(0, most);
+    }
+    (jobs, settings)
 }
 
 /// A list of two to four jobs whose costs over their periods sum to about 1, so that often no job

@@ -1,9 +1,10 @@
 //! What must hold of the answers of all stored cases.
 
+use reference::breakdown::BREAKDOWN_BYTES;
 use reference::configuration::{put_settings, QuantumRange, SETTING_BYTES};
 use reference::entries::{
-    answer, BOUNDS, EDIT, FROM_KERNEL, KEY, MARK, PLAN, READ_CONFIGURATION, READ_JOBS, SAME_BYTES,
-    TO_KERNEL, WRITE_CONFIGURATION, WRITE_JOBS,
+    answer, BOUNDS, BREAKDOWN, EDIT, FROM_KERNEL, KEY, MARK, PLAN, READ_CONFIGURATION, READ_JOBS,
+    SAME_BYTES, TO_KERNEL, WRITE_CONFIGURATION, WRITE_JOBS,
 };
 use reference::frames::{frames_of_file, Frame};
 use reference::generation::Case;
@@ -58,6 +59,7 @@ fn bytes_past_the_need_stay_and_a_refusal_changes_nothing() {
             (0, PLAN) => vec![SETTING_BYTES * jobs, BOUND_BYTES * jobs],
             (0, TO_KERNEL) => vec![KERNEL_BYTES * jobs],
             (0, FROM_KERNEL) => vec![SETTING_BYTES * jobs],
+            (0, BREAKDOWN) => vec![BREAKDOWN_BYTES * jobs],
             (_, PLAN) => vec![0, 0],
             (_, READ_JOBS | READ_CONFIGURATION | SAME_BYTES | EDIT | KEY) => continue,
             _ => vec![0],

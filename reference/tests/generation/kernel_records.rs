@@ -1,28 +1,21 @@
-//! What the cases of kernel records must hold: both ways of each pair, every refusal alone and with
-//! every later one, and the edges of the priorities.
+//! What the cases of kernel records must hold: both ways of each pair, and the edges of the
+//! priorities.
 
 use std::collections::BTreeSet;
 
 use reference::entries::{FROM_KERNEL, TO_KERNEL};
 use reference::generation::{Case, KERNEL_RECORDS};
 
-use crate::{job_records, stored_of_kind};
-
-/// The refusals of both entries in the order in which they are sought.
-const REFUSALS_OF_ENTRIES: [(u8, [u8; 12]); 2] = [
-    (TO_KERNEL, [1, 2, 3, 5, 6, 13, 7, 8, 9, 10, 11, 12]),
-    (FROM_KERNEL, [1, 2, 3, 5, 6, 13, 7, 8, 14, 9, 10, 12]),
-];
+use crate::job_records;
 
 /// The cases of an entry.
 fn cases_of(entry: u8) -> impl Iterator<Item = &'static Case> {
-    let cases = stored_of_kind(&KERNEL_RECORDS).iter();
-    cases.filter(move |case| case.input.head == entry)
+    crate::cases_of(&KERNEL_RECORDS, entry)
 }
 
 /// The accepted cases of an entry.
 fn accepted(entry: u8) -> impl Iterator<Item = &'static Case> {
-    cases_of(entry).filter(|case| case.output.head == 0)
+    crate::accepted(&KERNEL_RECORDS, entry)
 }
 
 /// The lowest and the highest priority of a case.
@@ -55,30 +48,6 @@ fn kernel(case: &Case) -> &[u8] {
 fn levels(case: &Case) -> Vec<u8> {
     let records = configuration(case).chunks(4);
     records.map(|record| record[1]).collect()
-}
-
-/// The numbers of the refusals that apply to a case.
-fn refusals_present(case: &Case) -> BTreeSet<u8> {
-    let faults = case.faults();
-    faults.iter().map(|fault| fault.refusal.number()).collect()
-}
-
-#[test]
-fn every_refusal_comes_alone_and_with_every_later_one() {
-    for (entry, refusals) in REFUSALS_OF_ENTRIES {
-        for (place, first) in refusals.iter().enumerate() {
-            let refused = cases_of(entry).filter(|case| case.output.head == *first);
-            let present: Vec<BTreeSet<u8>> = refused.map(refusals_present).collect();
-            let is_alone = |faults: &BTreeSet<u8>| faults.len() == 1;
-            assert!(present.iter().any(is_alone), "entry {entry}: {first}");
-            for later in &refusals[place + 1..] {
-                let has_both = present.iter().any(|faults| faults.contains(later));
-                assert!(has_both, "entry {entry}: {first} before {later}");
-            }
-        }
-        let is_known = |case: &Case| case.output.head == 0 || refusals.contains(&case.output.head);
-        assert!(cases_of(entry).all(is_known));
-    }
 }
 
 #[test]
@@ -184,21 +153,6 @@ fn refused_priorities_are_one_too_few_and_in_the_wrong_order() {
         assert!(one_too_few.count() >= 5);
         let wrong_order = refused().filter(|case| values(case) == 0);
         assert!(wrong_order.count() >= 10);
-    }
-}
-
-#[test]
-fn outputs_are_longer_than_the_need_exact_and_shorter() {
-    for entry in [TO_KERNEL, FROM_KERNEL] {
-        let lent = |case: &Case| case.input.blocks[2].len();
-        let need = |case: &Case| 4 * job_records(case).len();
-        let exact = accepted(entry).filter(|case| lent(case) == need(case));
-        assert!(exact.count() >= 40);
-        let longer = accepted(entry).filter(|case| lent(case) > need(case));
-        assert!(longer.count() >= 80);
-        let short = || cases_of(entry).filter(|case| case.output.head == 12);
-        assert!(short().any(|case| lent(case) + 1 == need(case)));
-        assert!(short().any(|case| lent(case) == 0));
     }
 }
 

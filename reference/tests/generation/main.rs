@@ -1,6 +1,8 @@
 //! What the stored cases must hold, and what must hold of every case.
 
 mod answers;
+mod breakdown_readings;
+mod breakdowns;
 #[path = "../common/mod.rs"]
 mod common;
 mod kernel_readings;
@@ -8,6 +10,7 @@ mod kernel_records;
 mod long_blocks;
 mod minimums;
 mod readings;
+mod refused;
 
 use std::sync::OnceLock;
 
@@ -19,7 +22,7 @@ use reference::jobs::{jobs_of_records, Job};
 use reference::response_time::{bounds_of_records, BOUND_BYTES};
 
 /// How many cases are stored.
-const STORED: usize = 8_400;
+const STORED: usize = 9_300;
 
 /// The stored cases.
 fn stored() -> &'static [Case] {
@@ -30,6 +33,17 @@ fn stored() -> &'static [Case] {
 /// The stored cases of a kind.
 fn stored_of_kind(kind: &Kind) -> &'static [Case] {
     &stored()[cases_of_kind(kind)]
+}
+
+/// The stored cases of an entry among those of a kind.
+fn cases_of(kind: &Kind, entry: u8) -> impl Iterator<Item = &'static Case> {
+    let cases = stored_of_kind(kind).iter();
+    cases.filter(move |case| case.input.head == entry)
+}
+
+/// The accepted ones among them.
+fn accepted(kind: &Kind, entry: u8) -> impl Iterator<Item = &'static Case> {
+    cases_of(kind, entry).filter(|case| case.output.head == 0)
 }
 
 /// The records of jobs in a case's first block, which is empty of them in a test for same bytes.

@@ -3,8 +3,8 @@
 use std::sync::OnceLock;
 
 use reference::entries::{
-    place_of_entry, BOUNDS, EDIT, ENTRIES, KEY, MARK, PLAN, READ_CONFIGURATION, READ_JOBS,
-    SAME_BYTES, WRITE_CONFIGURATION, WRITE_JOBS,
+    place_of_entry, BOUNDS, BREAKDOWN, EDIT, ENTRIES, KEY, MARK, PLAN, READ_CONFIGURATION,
+    READ_JOBS, SAME_BYTES, WRITE_CONFIGURATION, WRITE_JOBS,
 };
 use reference::generation::effects::Effect;
 use reference::generation::long_deadlines::has_long_deadline;
@@ -12,7 +12,8 @@ use reference::generation::rounds::Kind;
 use reference::generation::situation_counts::SituationCounts;
 use reference::generation::summary::Summary;
 use reference::generation::{
-    cases_of_kind, place_of_kind, DELAYS, LIGHT_NEIGHBOURS, LONG_DEADLINES, SHORT_DEADLINES,
+    cases_of_kind, place_of_kind, BREAKDOWNS, DELAYS, LIGHT_NEIGHBOURS, LONG_DEADLINES,
+    SHORT_DEADLINES,
 };
 use reference::jobs::Job;
 use reference::refusal::REFUSALS;
@@ -21,7 +22,7 @@ use reference::response_time::bound;
 use crate::{answered_bounds, job_records, judged_jobs, stored, stored_of_kind};
 
 /// What the stored cases hold.
-fn summary() -> &'static Summary {
+pub fn summary() -> &'static Summary {
     static SUMMARY: OnceLock<Summary> = OnceLock::new();
     SUMMARY.get_or_init(|| Summary::of_cases(stored()))
 }
@@ -31,8 +32,8 @@ fn place(entry: u8) -> usize {
     place_of_entry(entry).expect("an entry has a place")
 }
 
-/// The counts of policy 2 jobs in a kind's cases of bounds, mark and plan.
-fn neighbours_of_kind(kind: &Kind) -> [SituationCounts; 3] {
+/// The counts of policy 2 jobs in a kind's cases of bounds, mark, plan and breakdown.
+fn neighbours_of_kind(kind: &Kind) -> [SituationCounts; 4] {
     summary().kinds[place_of_kind(kind)].neighbours.entries
 }
 
@@ -90,7 +91,7 @@ fn minimums_of_the_planner() {
 
 #[test]
 fn minimums_of_runs() {
-    let [bounds, mark, plan] = summary().long_deadlines.entries;
+    let [bounds, mark, plan, breakdown] = summary().long_deadlines.entries;
     for counts in [bounds, mark] {
         assert!(counts.cases >= 150, "{counts:?}");
         assert!(counts.closed_at_first >= 50, "{counts:?}");
@@ -113,11 +114,16 @@ fn minimums_of_runs() {
     assert!(plan.closed_at_last >= 3, "{plan:?}");
     assert!(plan.largest_inside >= 20, "{plan:?}");
     assert!(plan.long_finish >= 10, "{plan:?}");
+    assert!(breakdown.closed_later >= 500, "{breakdown:?}");
+    assert!(breakdown.closed_at_last >= 10, "{breakdown:?}");
+    assert!(breakdown.not_closed >= 100, "{breakdown:?}");
+    assert!(breakdown.largest_inside >= 150, "{breakdown:?}");
+    assert!(breakdown.long_finish >= 90, "{breakdown:?}");
 }
 
 #[test]
 fn minimums_of_situations() {
-    let [bounds, mark, plan] = neighbours_of_kind(&LIGHT_NEIGHBOURS);
+    let [bounds, mark, plan, _] = neighbours_of_kind(&LIGHT_NEIGHBOURS);
     for counts in [bounds, mark] {
         assert!(counts.cases >= 300, "{counts:?}");
         assert!(counts.jobs.iter().all(|count| *count >= 60), "{counts:?}");
@@ -129,6 +135,10 @@ fn minimums_of_situations() {
     }
     assert!(mark.passing_by_second >= 60, "{mark:?}");
     assert!(plan.cases >= 20, "{plan:?}");
+    let [.., breakdown] = neighbours_of_kind(&BREAKDOWNS);
+    let mut late_jobs = breakdown.late_jobs.iter();
+    assert!(late_jobs.all(|count| *count >= 40), "{breakdown:?}");
+    assert!(breakdown.closed_apart >= 200, "{breakdown:?}");
 }
 
 #[test]
@@ -144,11 +154,12 @@ fn minimums_of_lists_with_delays() {
         (PLAN, 150),
         (EDIT, 35),
         (KEY, 30),
+        (BREAKDOWN, 400),
     ] {
         let lists = delays.lists[place(entry)];
         assert!(lists >= least, "entry {entry}: {lists} lists");
     }
-    for entry in [BOUNDS, MARK, PLAN, KEY].map(place) {
+    for entry in [BOUNDS, MARK, PLAN, KEY, BREAKDOWN].map(place) {
         let (lists, mattering) = (delays.lists[entry], delays.mattering[entry]);
         assert!(10 * mattering >= 9 * lists, "{mattering} of {lists}");
     }
@@ -156,8 +167,8 @@ fn minimums_of_lists_with_delays() {
 
 #[test]
 fn minimums_of_effects_of_delays() {
-    let [bounds, mark, plan] = summary().delays.effects.entries;
-    for counts in [bounds, mark] {
+    let [bounds, mark, plan, breakdown] = summary().delays.effects.entries;
+    for counts in [bounds, mark, breakdown] {
         assert!(counts.jobs >= 500, "{counts:?}");
         assert!(counts.longest >= 50, "{counts:?}");
         assert!(
@@ -165,7 +176,7 @@ fn minimums_of_effects_of_delays() {
             "{counts:?}"
         );
     }
-    let [bounds, mark, _] = neighbours_of_kind(&DELAYS);
+    let [bounds, mark, ..] = neighbours_of_kind(&DELAYS);
     for counts in [bounds, mark] {
         assert!(counts.jobs.iter().all(|count| *count >= 5), "{counts:?}");
     }
