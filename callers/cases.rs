@@ -15,6 +15,16 @@ extern "C" {
         bounds: *mut u8,
         bounds_length: usize,
     ) -> u32;
+    fn ruzhtylen_breakdown(
+        jobs: *const u8,
+        jobs_length: usize,
+        low: u8,
+        high: u8,
+        configuration: *const u8,
+        configuration_length: usize,
+        output: *mut u8,
+        output_length: usize,
+    ) -> u32;
     fn ruzhtylen_mark(
         jobs: *const u8,
         jobs_length: usize,
@@ -94,6 +104,9 @@ const ENTRIES: &[Entry] = &[
     entry(8, 1, same_bytes),
     entry(11, 0, |frame| with_priorities(frame, ruzhtylen_to_kernel)),
     entry(12, 0, |frame| with_priorities(frame, ruzhtylen_from_kernel)),
+    entry(13, 0, |frame| {
+        with_configuration(frame, ruzhtylen_breakdown)
+    }),
 ];
 
 const fn entry(number: u8, numbers: usize, call: fn(Frame) -> Option<Answer>) -> Entry {

@@ -51,6 +51,20 @@ uint32_t ruzhtylen_mark(const uint8_t *jobs, size_t jobs_length, uint8_t low, ui
                         const uint8_t *configuration, size_t configuration_length,
                         uint8_t *bounds, size_t bounds_length);
 
+/* Writes where the ticks of the bounds go, of a configuration full or not: 22 bytes for each job, all 0 where its bound is 0. An amount has
+   four bytes, the high byte first.
+     0       the instance that reaches the bound first, counted from 0
+     1       which of the two bounds it is: 1 by quanta, for policy 1 and where both are equal; 2 with the layer's other jobs as if above
+     2..5    the own work: that of this instance and of those before it
+     6..9    what the other jobs of the layer add in that bound
+     10..13  the work of the jobs above, those not placed too
+     14..17  the job's delay
+     18..21  when the instance is released, which is taken off
+   The bound is the sum of the first four amounts less the fifth. */
+uint32_t ruzhtylen_breakdown(const uint8_t *jobs, size_t jobs_length, uint8_t low, uint8_t high,
+                             const uint8_t *configuration, size_t configuration_length,
+                             uint8_t *output, size_t output_length);
+
 /* Writes a configuration, four bytes for each job, and its bounds, two bytes for each job.
    Byte 1: the placed set; bytes 2 and 3: the count of sets considered, the low byte first. */
 uint32_t ruzhtylen_plan(const uint8_t *jobs, size_t jobs_length, uint8_t low, uint8_t high,
