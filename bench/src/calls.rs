@@ -1,5 +1,6 @@
 //! What a call is given and what it answers.
 
+use crate::same::breakdown::PARTS_SIZE;
 use crate::same::job::{Job, JOB_SIZE};
 use crate::same::marker::BOUND_SIZE;
 use crate::same::setting::{Setting, ROUND_ROBIN, SETTING_SIZE};
@@ -8,8 +9,8 @@ use crate::same::{first_jobs, MOST_JOBS};
 /// The planner's entry: a job block, a range, and the outputs for configuration and bounds.
 pub type Plan = fn(&[u8], u8, u8, &mut [u8], &mut [u8]) -> u32;
 
-/// The entry of the bounds or the marker: a job block, a range, a configuration block, and the
-/// output for bounds.
+/// The entry of the bounds, the marker or the breakdown: a job block, a range, a configuration
+/// block, and the output for bounds or their parts.
 pub type Mark = fn(&[u8], u8, u8, &[u8], &mut [u8]) -> u32;
 
 /// The entry that converts to kernel records, or back: a job block, a range, the lowest and the
@@ -25,13 +26,14 @@ pub struct Case {
     pub configuration: Vec<u8>,
 }
 
-/// The answer's word and both outputs. The outputs are full of ones before a call, so that a byte
+/// The answer's word and all outputs. The outputs are full of ones before a call, so that a byte
 /// that is written in excess shows.
 #[derive(Clone, PartialEq, Eq, Debug)]
 pub struct Answer {
     pub word: u32,
     pub configuration: [u8; MOST_JOBS * SETTING_SIZE],
     pub bounds: [u8; MOST_JOBS * BOUND_SIZE],
+    pub parts: [u8; MOST_JOBS * PARTS_SIZE],
 }
 
 impl Answer {
@@ -40,6 +42,7 @@ impl Answer {
             word: 0,
             configuration: [255; MOST_JOBS * SETTING_SIZE],
             bounds: [255; MOST_JOBS * BOUND_SIZE],
+            parts: [255; MOST_JOBS * PARTS_SIZE],
         }
     }
 
@@ -97,6 +100,18 @@ impl Case {
         );
     }
 
+    /// Calls the breakdown; the answer is written over.
+    #[inline(always)]
+    pub fn call_breakdown(&self, breakdown: Mark, answer: &mut Answer) {
+        answer.word = breakdown(
+            &self.jobs,
+            self.low,
+            self.high,
+            &self.configuration,
+            &mut answer.parts,
+        );
+    }
+
     /// Calls a conversion of the configuration or the kernel block; the answer is written over.
     #[inline(always)]
     pub fn call_convert(&self, priorities: (u8, u8), convert: Convert, answer: &mut Answer) {
@@ -109,25 +124,31 @@ impl Case {
         );
     }
 
+    /// The answer of a call.
+    fn answered(&self, call: impl Fn(&Case, &mut Answer)) -> Answer {
+        let mut answer = Answer::blank();
+        call(self, &mut answer);
+        answer
+    }
+
     /// The answer of a conversion.
     pub fn converted(&self, priorities: (u8, u8), convert: Convert) -> Answer {
-        let mut answer = Answer::blank();
-        self.call_convert(priorities, convert, &mut answer);
-        answer
+        self.answered(|case, answer| case.call_convert(priorities, convert, answer))
     }
 
     /// The answer of a planner.
     pub fn planned(&self, plan: Plan) -> Answer {
-        let mut answer = Answer::blank();
-        self.call_plan(plan, &mut answer);
-        answer
+        self.answered(|case, answer| case.call_plan(plan, answer))
     }
 
     /// The answer of the bounds or the marker.
     pub fn marked(&self, mark: Mark) -> Answer {
-        let mut answer = Answer::blank();
-        self.call_mark(mark, &mut answer);
-        answer
+        self.answered(|case, answer| case.call_mark(mark, answer))
+    }
+
+    /// The answer of the breakdown.
+    pub fn broken_down(&self, breakdown: Mark) -> Answer {
+        self.answered(|case, answer| case.call_breakdown(breakdown, answer))
     }
 
     /// Whether an answer of a planner places every job and has a shared level.

@@ -1,6 +1,7 @@
 //! The product's compiled code, by its C interface: a slice is a pointer and a length.
 
-/// An entry that is given a job block, a range, a configuration block and an output for bounds.
+/// An entry that is given a job block, a range, a configuration block and an output for bounds or
+/// their parts.
 type MarkEntry =
     unsafe extern "C" fn(*const u8, usize, u8, u8, *const u8, usize, *mut u8, usize) -> u32;
 
@@ -67,6 +68,17 @@ mod entries {
             b: *const u8,
             b_length: usize,
         ) -> u8;
+
+        pub fn ruzhtylen_breakdown(
+            jobs: *const u8,
+            jobs_length: usize,
+            low: u8,
+            high: u8,
+            configuration: *const u8,
+            configuration_length: usize,
+            output: *mut u8,
+            output_length: usize,
+        ) -> u32;
 
         pub fn ruzhtylen_to_kernel(
             jobs: *const u8,
@@ -187,6 +199,12 @@ pub use now::{bounds, mark, plan};
 #[cfg(before)]
 pub mod before {
     over_slices!(entries_before);
+}
+
+/// The parts of the bounds of a configuration block, full or not.
+pub fn breakdown(jobs: &[u8], low: u8, high: u8, configuration: &[u8], out: &mut [u8]) -> u32 {
+    let entry = entries::ruzhtylen_breakdown;
+    call_mark(entry, jobs, low, high, configuration, out)
 }
 
 /// Whether two blocks are the same bytes.

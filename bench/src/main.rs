@@ -28,7 +28,7 @@ use timing::Effort;
 /// A measure with its letter.
 type Measure = (char, fn(&Scale));
 
-const MEASURES: [Measure; 7] = [
+const MEASURES: [Measure; 8] = [
     ('a', measures::same_algorithm::run),
     ('b', measures::pruned_search::run),
     ('c', measures::slowest_list::run),
@@ -36,6 +36,7 @@ const MEASURES: [Measure; 7] = [
     ('e', measures::mean_plan::run),
     ('f', measures::same_bytes::run),
     ('g', measures::loader::run),
+    ('h', measures::breakdown::run),
 ];
 
 /// What the words on the command line ask for.

@@ -4,11 +4,10 @@
 use crate::calls::{Answer, Case, Convert};
 use crate::library;
 use crate::lists::{self, Kind};
-use crate::measures::{pass, Scale};
+use crate::measures::{time_calls, Scale};
 use crate::random::Random;
 use crate::report::{ratio, Goal};
 use crate::same::kernel;
-use crate::timing::alternate;
 
 const PRIORITIES: (u8, u8) = (1, 99);
 
@@ -39,16 +38,11 @@ fn compare(scale: &Scale, name: &str, cases: &[Case], ours: Convert, other: Conv
         );
         assert_eq!(mine, theirs, "conversions differ");
     }
-    let (mut mine, mut theirs) = (Answer::blank(), Answer::blank());
     let call = |convert: Convert| {
         move |case: &Case, answer: &mut Answer| case.call_convert(PRIORITIES, convert, answer)
     };
-    let times = alternate(
-        scale.effort,
-        || pass(cases, &mut mine, call(ours)),
-        || pass(cases, &mut theirs, call(other)),
-    );
-    ratio(name, &times.per(cases.len()), "rust", Goal::AtMost(1.25));
+    let times = time_calls(cases, scale.effort, call(ours), call(other));
+    ratio(name, &times, "rust", Goal::AtMost(1.25));
 }
 
 pub fn run(scale: &Scale) {

@@ -1,5 +1,6 @@
 //! The measures, a module for each.
 
+pub mod breakdown;
 pub mod hand_ins;
 pub mod loader;
 pub mod mean_plan;
@@ -36,42 +37,32 @@ fn pass(cases: &[Case], answer: &mut Answer, call: impl Fn(&Case, &mut Answer)) 
     }
 }
 
-/// The mean seconds of two planners over the cases.
-pub fn time_plans(cases: &[Case], effort: Effort, ours: Plan, other: Plan) -> Sides {
+/// The mean seconds of two calls over the cases.
+fn time_calls(
+    cases: &[Case],
+    effort: Effort,
+    ours: impl Fn(&Case, &mut Answer),
+    other: impl Fn(&Case, &mut Answer),
+) -> Sides {
     let (mut mine, mut theirs) = (Answer::blank(), Answer::blank());
     let times = alternate(
         effort,
-        || {
-            pass(cases, &mut mine, |case, answer| {
-                case.call_plan(ours, answer)
-            })
-        },
-        || {
-            pass(cases, &mut theirs, |case, answer| {
-                case.call_plan(other, answer)
-            })
-        },
+        || pass(cases, &mut mine, &ours),
+        || pass(cases, &mut theirs, &other),
     );
     times.per(cases.len())
 }
 
+/// The mean seconds of two planners over the cases.
+pub fn time_plans(cases: &[Case], effort: Effort, ours: Plan, other: Plan) -> Sides {
+    let call = |plan: Plan| move |case: &Case, answer: &mut Answer| case.call_plan(plan, answer);
+    time_calls(cases, effort, call(ours), call(other))
+}
+
 /// The same of two entries for bounds or marks.
 pub fn time_marks(cases: &[Case], effort: Effort, ours: Mark, other: Mark) -> Sides {
-    let (mut mine, mut theirs) = (Answer::blank(), Answer::blank());
-    let times = alternate(
-        effort,
-        || {
-            pass(cases, &mut mine, |case, answer| {
-                case.call_mark(ours, answer)
-            })
-        },
-        || {
-            pass(cases, &mut theirs, |case, answer| {
-                case.call_mark(other, answer)
-            })
-        },
-    );
-    times.per(cases.len())
+    let call = |mark: Mark| move |case: &Case, answer: &mut Answer| case.call_mark(mark, answer);
+    time_calls(cases, effort, call(ours), call(other))
 }
 
 /// Checks that two planners give the same words and bytes for every case.

@@ -10,7 +10,7 @@ use crate::random::Random;
 use crate::report::{ratio, Goal};
 
 /// Calls for random lists of some kinds with any levels.
-fn configurations(random: &mut Random, kinds: &Kinds, count: usize, full: bool) -> Vec<Case> {
+pub fn configurations(random: &mut Random, kinds: &Kinds, count: usize, full: bool) -> Vec<Case> {
     let case = |_| {
         let jobs = lists::mixed_list(random, kinds);
         let range = lists::range(random);

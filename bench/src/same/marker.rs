@@ -29,6 +29,17 @@ fn level_set(settings: &[Setting], test: impl Fn(u8) -> bool) -> u8 {
     set
 }
 
+/// The layer of the job at a place, and the set above it; none where the job is not placed.
+pub fn layer_and_above(settings: &[Setting], place: usize) -> Option<(u8, u8)> {
+    let own = settings[place].level;
+    if own == 0 {
+        return None;
+    }
+    let layer = level_set(settings, |level| level == own);
+    let above = level_set(settings, |level| level < own);
+    Some((layer, above))
+}
+
 /// The bound of the job at a place.
 fn bound_of(
     workload: &Workload<Shortcuts>,
@@ -36,13 +47,9 @@ fn bound_of(
     count: usize,
     place: usize,
 ) -> u16 {
-    let own = settings[place].level;
-    if own == 0 {
+    let Some((layer, above)) = layer_and_above(&settings[..count], place) else {
         return 0;
-    }
-    let listed = &settings[..count];
-    let layer = level_set(listed, |level| level == own);
-    let above = level_set(listed, |level| level < own);
+    };
     let quanta = settings.map(|setting| setting.quantum);
     workload.bound(&quanta, layer, above, place)
 }
@@ -57,7 +64,7 @@ fn bounds_of(jobs: &Jobs, settings: &Settings) -> Bounds {
 }
 
 /// The jobs and the settings of two blocks.
-fn read(
+pub fn read(
     block: &[u8],
     low: u8,
     high: u8,

@@ -1,6 +1,7 @@
 //! The product's algorithm written in Rust: the same blocks, the same response-time test with its
 //! shortcuts, the same search for quanta and the same order of sets.
 
+pub mod breakdown;
 pub mod job;
 pub mod kernel;
 pub mod marker;
