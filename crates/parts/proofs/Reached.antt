@@ -1,6 +1,6 @@
 -- The instance that the code finds is the one that decides, and what is found there are the parts. Assumes nothing.
 use mathlib.Core.Path.{_≡_, refl, sym, _∙_, ap, ap₂, subst}
-use mathlib.Core.Bool.{Bool, cond}
+use mathlib.Core.Bool.{Bool, true, not, _&&_, false≢true}
 use mathlib.Core.Logic.{_≢_}
 use mathlib.Core.List.{List}
 use Prim.Native.Nat.{ℕ, zero, suc, _+_, _-_, _*_, _≤_, _<_}
@@ -10,7 +10,9 @@ use native.Mathlib.Omega.{arith}
 use lib.Dec.{eqb}
 use lib.ListN.{length, getD}
 use borrow.Author.Tests.{eq-eqb, ne-eqb}
-use Rattle.sets.specs.Sets.{Set}
+use Rattle.sets.specs.Sets.{Set, has, remove, Alone}
+use Rattle.sets.proofs.Members.{has-none}
+use Rattle.records.specs.Limits.{mostJobs}
 use Rattle.records.specs.Jobs.{jobAt}
 use Rattle.records.specs.declared.job.Job.{Job}
 use Rattle.response.specs.Demand.{interference, neighbours, otherQuanta, layerShare, demand, finish, mostInstances, firstBound, withNeighbours, only, secondBound}
@@ -22,6 +24,7 @@ use Rattle.response.proofs.Breakdown.{bound-reached, bound-end, above-within, n
 use Rattle.finishes.specs.Finishes.{Table, utilisationsOf}
 use Rattle.runs.specs.Runs.{ownDemand}
 use Rattle.runs.proofs.OneRun.{MayStart, starts-at-zero, starts-at-finish, foundFrom, finish-found}
+use Rattle.search.proofs.Deciding.{neighbours-set}
 use Rattle.parts.specs.declared.End.{End}
 use Rattle.parts.specs.Endings.{endBy, endOf}
 
@@ -101,6 +104,15 @@ module _ (jobs : List Job) (q : List ℕ) (s a : Set) (k : ℕ) where
       ap₂ (λ (x : List ℕ) (r : Set). search x r others bound) u v
       ∙ ap₂ (search (utilisationsOf jobs) a) o e
       ∙ end-found b mostInstances 0 0 (starts-at-zero jobs q s a k) (omega arith) (omega (arith, bound-reached jobs q s a k b .within))
+
+-- A job whose layer has no other number is alone in it.
+pub no-neighbours : (n layer k : ℕ) → k < mostJobs → remove layer k ≡ 0 → Alone n (has layer) k
+no-neighbours n layer k l z i il e = elim (ℕ-discrete i k) [
+  | yes g ↦ g
+  | no g ↦
+      let beside : has (remove layer k) i ≡ true = ap (λ (s : Set). s i) (neighbours-set layer 0 k l) ∙ ap₂ (λ (x y : Bool). x && not y) e (ne-eqb i k g) in
+      absurd (false≢true (sym (has-none i) ∙ ap (λ (s : ℕ). has s i) (sym z) ∙ beside))
+]
 
 -- ---- the parts there
 

@@ -2,11 +2,14 @@
 // search for bounds carries no instance.
 ghost use mathlib.Core.Path.{_≡_};
 ghost use Prim.Native.Nat.{_^_, _<_, _≤_};
-ghost use Rattle.sets.specs.Sets.{has};
+ghost use mathlib.Core.Bool.{cond};
+ghost use lib.Dec.{eqb};
+ghost use Rattle.sets.specs.Sets.{has, join};
 ghost use Rattle.records.specs.Limits.{mostJobs};
 ghost use Rattle.response.specs.Demand.{mostInstances, firstBound, secondBound};
 ghost use Rattle.response.specs.Breakdown.{partsAt, firstParts, secondParts, parts};
 ghost use Rattle.finishes.specs.Finishes.{utilisationsOf, longestTime};
+ghost use Rattle.runs.specs.Runs.{runBound};
 ghost use Rattle.parts.specs.Endings.{endOf};
 use finishes::capacity;
 use finishes::finish;
@@ -132,6 +135,25 @@ fn second_parts(
     parts_at(entry, end.instance, 2, share, higher)
 }
 
+// The second bound of a job, from its first, which it is without neighbours.
+fn second_bound(
+    jobs: [Job; Job::MOST],
+    utilisations: [u32; Job::MOST],
+    above: u8,
+    neighbours: u8,
+    quantum: u8,
+    job: Job,
+    first: u16,
+) -> u16
+    ensures { λ r. ⌜ r ≡ cond (eqb neighbours 0) first (runBound (record { jobs = jobs; utilisations = utilisations }) (has (join above neighbours)) quantum 0 job) ⌝ }
+{
+    if neighbours == 0 {
+        return first;
+    }
+    let all = sets::join(above, neighbours);
+    runs::run_bound(jobs, utilisations, all, quantum, 0, job)
+}
+
 // The parts of the bound of the job at a place, in a layer with a set above. No entry; it judges nothing: its contract says what any
 // numbers give.
 pub fn parts_of(
@@ -150,9 +172,9 @@ pub fn parts_of(
     let quantum = quanta[job];
     let utilisations = capacity::utilisations_of(jobs);
     let others = quanta::other_quanta(quanta, layer, job);
-    let all = sets::join(above, sets::remove(layer, job));
+    let neighbours = sets::remove(layer, job);
     let first = runs::run_bound(jobs, utilisations, above, quantum, others, entry);
-    let second = runs::run_bound(jobs, utilisations, all, quantum, 0, entry);
+    let second = second_bound(jobs, utilisations, above, neighbours, quantum, entry, first);
     let bound = workload::lesser(first, second);
     if bound == 0 {
         return Parts::NONE;

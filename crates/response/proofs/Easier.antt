@@ -208,12 +208,13 @@ no-neighbour n k s a x i il = drop (a i) (s i) (not (eqb i k)) (λ e f. eqb-fals
     drop false false b h = refl
 
 -- "Policy 1 jobs have the first alone": without neighbours the two bounds are one.
+pub second-first : (jobs : List Job) (k : ℕ) (q : List ℕ) (s a : Set) → Alone (length jobs) s k → secondBound jobs q s a k ≡ firstBound jobs q s a k
+second-first jobs k q s a x =
+    alone-same jobs k q q (only k) s (withNeighbours s a k) a (only-alone (length jobs) k) x (no-neighbour (length jobs) k s a x)
+
 pub first-alone : (jobs : List Job) (k : ℕ) (q : List ℕ) (s a : Set) → Alone (length jobs) s k → bound jobs q s a k ≡ firstBound jobs q s a k
 unfolding bound
-first-alone jobs k q s a x =
-    let e : secondBound jobs q s a k ≡ firstBound jobs q s a k =
-    alone-same jobs k q q (only k) s (withNeighbours s a k) a (only-alone (length jobs) k) x (no-neighbour (length jobs) k s a x) in
-    lesser-same (firstBound jobs q s a k) (secondBound jobs q s a k) e
+first-alone jobs k q s a x = lesser-same (firstBound jobs q s a k) (secondBound jobs q s a k) (second-first jobs k q s a x)
 
 -- A second bound of 0 leaves the first.
 pub second-none : (jobs : List Job) (k : ℕ) (q : List ℕ) (s a : Set) → secondBound jobs q s a k ≡ 0 → bound jobs q s a k ≡ firstBound jobs q s a k

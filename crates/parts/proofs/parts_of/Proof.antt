@@ -1,22 +1,26 @@
 use Prim.Native.Nat.{ℕ, _≤_, _<_}
 use mathlib.Core.Path.{_≡_, refl, sym, _∙_, ap, ap₂}
+use mathlib.Core.Bool.{Bool, cond}
 use mathlib.Core.Logic.{_≢_}
 use mathlib.Core.List.{List}
+use native.Mathlib.Decide.{ℕ-discrete}
 use native.Mathlib.Omega.{arith}
 use lib.ListN.{length, getD}
+use borrow.Author.Tests.{eq-eqb, ne-eqb}
 use borrow.Author.Needs.{needs}
 use Rattle.sets.specs.Sets.{Set, has, join}
 use Rattle.records.specs.Limits.{mostJobs}
 use Rattle.records.specs.Jobs.{jobAt}
 use Rattle.response.specs.Demand.{otherQuanta, firstBound, withNeighbours, only, secondBound, lesser, bound}
-use Rattle.response.proofs.Easier.{others-alone, only-alone}
+use Rattle.response.proofs.Easier.{others-alone, only-alone, second-first}
 use Rattle.response.proofs.Breakdown.{parts-none, parts-first, parts-second, second-decides}
-use Rattle.finishes.specs.Finishes.{utilisationsOf}
+use Rattle.finishes.specs.Finishes.{Table, utilisationsOf}
 use Rattle.runs.specs.Runs.{runBound}
 use Rattle.runs.proofs.OneRun.{run-bound}
 use Rattle.search.specs.Search.{plainWorkload}
 use Rattle.search.proofs.BothBounds.{bound-plain, by-past}
 use Rattle.search.proofs.Deciding.{with-set}
+use Rattle.parts.proofs.Reached.{no-neighbours}
 use Rattle.parts.proofs.parts_of.Statement.{statement}
 use Rattle.parts.proofs.parts_of.Tie as tie
 
@@ -48,14 +52,11 @@ other-quanta-requires c κs = search needs
 remove-requires : tie.Need-remove-requires
 remove-requires c κs = search needs
 
-join-requires : tie.Need-join-requires
-join-requires c κs = search needs
-
 run-bound-requires : tie.Need-run-bound-requires
 run-bound-requires c κs = search needs
 
-run-bound-requires-2 : tie.Need-run-bound-requires-2
-run-bound-requires-2 c κs = search needs
+second-bound-requires : tie.Need-second-bound-requires
+second-bound-requires c κs = search needs
 
 lesser-requires : tie.Need-lesser-requires
 lesser-requires c κs = search needs
@@ -63,7 +64,7 @@ lesser-requires c κs = search needs
 -- After the lesser of the two bounds: each is the definition's.
 module _ (c : tie.After-lesser) where
   abbrev u : tie.After-utilisations-of
-  u = c .before .before .before .before .before .before
+  u = c .before .before .before .before .before
 
   abbrev start : tie.Start
   start = u .before .before .before
@@ -91,18 +92,26 @@ module _ (c : tie.After-lesser) where
   first =
       let a = start .args in
       let eight : length (a .t1) ≡ mostJobs = search needs in
-      let others = c .before .before .before .before .before .other-quanta in
+      let others = c .before .before .before .before .other-quanta in
       c .before .before .run-bound .ensures ∙ one-bound s o o _ refl (others .ensures ∙ ap (λ (n : ℕ). otherQuanta n (a .t2) s (a .job)) (sym eight))
 
-  second : let a = start .args in c .before .run-bound2 .result ≡ secondBound (a .t1) (a .t2) s o (a .job)
+  second : let a = start .args in c .before .second-bound .result ≡ secondBound (a .t1) (a .t2) s o (a .job)
   second =
       let a = start .args in
-      let all = c .before .before .before .join in
-      let beside = c .before .before .before .before .remove in
-      c .before .run-bound2 .ensures
-      ∙ one-bound (only (a .job)) (withNeighbours s o (a .job)) (has (all .result)) 0
-      (ap has (all .ensures ∙ ap (join (a .above)) (beside .ensures)) ∙ with-set (a .layer) (a .above) (a .job) place)
-      (sym (others-alone (length (a .t1)) (a .job) (a .t2) (only (a .job)) (only-alone (length (a .t1)) (a .job))))
+      let beside = c .before .before .before .remove in
+      let k = a .job in
+      let table : Table = record { jobs = a .t1; utilisations = u .utilisations-of .result } in
+      let given-by : Bool → ℕ = λ b. cond b (c .before .before .run-bound .result) (runBound table (has (join (a .above) (beside .result))) (getD (a .t2) k 0) 0 (jobAt (a .t1) k)) in
+      elim (ℕ-discrete (beside .result) 0) [
+        | yes z ↦
+            c .before .second-bound .ensures ∙ ap given-by (eq-eqb (beside .result) 0 z)
+            ∙ first ∙ sym (second-first (a .t1) k (a .t2) s o (no-neighbours (length (a .t1)) (a .layer) k place (sym (beside .ensures) ∙ z)))
+        | no z ↦
+            c .before .second-bound .ensures ∙ ap given-by (ne-eqb (beside .result) 0 z)
+            ∙ one-bound (only k) (withNeighbours s o k) (has (join (a .above) (beside .result))) 0
+            (ap has (ap (join (a .above)) (beside .ensures)) ∙ with-set (a .layer) (a .above) k place)
+            (sym (others-alone (length (a .t1)) k (a .t2) (only k) (only-alone (length (a .t1)) k)))
+      ]
 
   is-bound : let a = start .args in c .lesser .result ≡ bound (a .t1) (a .t2) s o (a .job)
   unfolding bound
@@ -153,9 +162,8 @@ parts-of-spec =
     utilisations-of-requires
     other-quanta-requires
     remove-requires
-    join-requires
     run-bound-requires
-    run-bound-requires-2
+    second-bound-requires
     lesser-requires
     returns-2
     first-parts-requires
