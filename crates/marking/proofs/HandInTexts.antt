@@ -28,13 +28,13 @@ module _ (job-table : List Job) (setting-table : List Setting) (jobs : List Job)
     abbrev bounds : List ℕ
     bounds = boundsOf jobs settings
 
-    job-same : (k : ℕ) → k < n → jobAt job-table k ≡ jobAt jobs k
+    pub job-same : (k : ℕ) → k < n → jobAt job-table k ≡ jobAt jobs k
     job-same k l = sym (getD-take n job-table k blankJob l) ∙ ap (λ (x : List Job). jobAt x k) list
 
-    setting-same : (k : ℕ) → k < n → settingAt setting-table k ≡ settingAt settings k
+    pub setting-same : (k : ℕ) → k < n → settingAt setting-table k ≡ settingAt settings k
     setting-same k l = sym (getD-take n setting-table k blankSetting l) ∙ ap (λ (x : List Setting). settingAt x k) set
 
-    bound-same : (k : ℕ) → getD found k 0 ≡ getD bounds k 0
+    pub bound-same : (k : ℕ) → getD found k 0 ≡ getD bounds k 0
     bound-same k =
         let own = boundsOf (take n job-table) (take n setting-table) in
         ap (λ (l : List ℕ). getD l k 0) is ∙ table-at 0 own (mostJobs - length own) k ∙ ap₂ (λ (x : List Job) (y : List Setting). getD (boundsOf x y) k 0) list set

@@ -1,2 +1,2 @@
 mod Marking
-mod HandInTexts
+pub mod HandInTexts
