@@ -76,7 +76,8 @@ fn parts_at(job: Job, instance: u32, which: u8, share: u64, above: u64) -> Parts
     requires { ⌜ (instance < mostInstances) × (share < 2 ^ 32) × (above < 2 ^ 32) ⌝ }
     ensures { λ r. ⌜ r ≡ partsAt job instance which share above ⌝ }
 {
-    let own = (instance + 1) * (job.cost as u32);
+    let count = instance + 1;
+    let own = count * (job.cost as u32);
     let taken = instance * (job.period as u32);
     Parts {
         instance: instance as u8,
@@ -130,9 +131,9 @@ fn second_parts(
     let neighbours = sets::remove(layer, job);
     let all = sets::join(above, neighbours);
     let end = ending(jobs, utilisations, all, quanta[job], 0, entry, bound);
-    let share = finish::work_by(jobs, neighbours, end.finish);
-    let higher = finish::work_by(jobs, above, end.finish);
-    parts_at(entry, end.instance, 2, share, higher)
+    let beside = finish::work_by(jobs, neighbours, end.finish);
+    let over = finish::work_by(jobs, above, end.finish);
+    parts_at(entry, end.instance, 2, beside, over)
 }
 
 // The second bound of a job, from its first, which it is without neighbours.

@@ -14,8 +14,8 @@ use Rattle.parts.proofs.parts_at.Tie as tie
 fits : (count x : ℕ) → count ≤ mostInstances → x < 2 ^ 16 → count * x < 2 ^ 22
 fits count x hn hx = let m : count * x ≤ 64 * 65535 = mul-le-mul {n₂ = 64} {m₂ = 65535} hn (omega arith) in omega arith
 
-add-own : tie.Need-add-own
-add-own c = search needs
+add-count : tie.Need-add-count
+add-count c = search needs
 
 cast-own : tie.Need-cast-own
 cast-own c = search needs
@@ -41,8 +41,8 @@ cast-t10 c = search needs
 cast-t9 : tie.Need-cast-t9
 cast-t9 c = search needs
 
-cast-t8 : tie.Need-cast-t8
-cast-t8 c = search needs
+cast-t12 : tie.Need-cast-t12
+cast-t12 c = search needs
 
 cast-t11 : tie.Need-cast-t11
 cast-t11 c = search needs
@@ -66,13 +66,13 @@ pub parts-at-spec : {M : Type 1} → statement M
 parts-at-spec =
     tie.close
     (tie.spec
-    add-own
+    add-count
     cast-own
     mul-own
     cast-taken
     mul-taken
     cast-t10
     cast-t9
-    cast-t8
     cast-t11
+    cast-t12
     returns)

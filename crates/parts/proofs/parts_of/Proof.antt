@@ -129,14 +129,14 @@ returns-2 c =
 first-parts-requires : tie.Need-first-parts-requires
 first-parts-requires c κs =
     let l = c .before .before in
-    (u l .utilisations-of .ensures, place l, omega (arith, c .before .if2 .left), c .if3 .taken ∙ first l)
+    (u l .utilisations-of .ensures, place l, omega (arith, c .before .if2 .left), omega (arith, c .if3 .taken, first l))
 
 returns-3 : tie.Need-returns-3
 returns-3 c =
     let l = c .before .before .before in
     let a = start l .args in
     c .first-parts .ensures
-    ∙ sym (parts-first (a .t1) (a .t2) (s l) (o l) (a .job) (λ z. c .before .before .if2 .left (is-bound l ∙ z)) (sym (is-bound l) ∙ c .before .if3 .taken ∙ first l))
+    ∙ sym (parts-first (a .t1) (a .t2) (s l) (o l) (a .job) (λ z. c .before .before .if2 .left (is-bound l ∙ z)) (omega (arith, is-bound l, c .before .if3 .taken, first l)))
 
 second-parts-requires : tie.Need-second-parts-requires
 second-parts-requires c κs =
