@@ -79,13 +79,14 @@ fn parts_at(job: Job, instance: u32, which: u8, share: u64, above: u64) -> Parts
     let count = instance + 1;
     let own = count * (job.cost as u32);
     let taken = instance * (job.period as u32);
+    let delay = job.delay as u32;
     Parts {
         instance: instance as u8,
         which,
         own,
         share: share as u32,
         above: above as u32,
-        delay: job.delay as u32,
+        delay,
         taken,
     }
 }

@@ -38,8 +38,8 @@ mul-taken c =
 cast-t10 : tie.Need-cast-t10
 cast-t10 c = search needs
 
-cast-t9 : tie.Need-cast-t9
-cast-t9 c = search needs
+cast-delay : tie.Need-cast-delay
+cast-delay c = search needs
 
 cast-t12 : tie.Need-cast-t12
 cast-t12 c = search needs
@@ -71,8 +71,8 @@ parts-at-spec =
     mul-own
     cast-taken
     mul-taken
-    cast-t10
-    cast-t9
+    cast-delay
     cast-t11
+    cast-t10
     cast-t12
     returns)
