@@ -1,7 +1,6 @@
 -- What a caller holds after breakdown: the records are the parts, they make the bounds, and fit their bytes. Assumes nothing.
 use Prim.Native.Nat.{ℕ, _+_, _*_, _/_, _%_, _^_, _≤_, _<_}
 use mathlib.Core.Path.{_≡_, refl, sym, subst, _∙_, ap, ap₂}
-use mathlib.Core.Bool.{true, false}
 use mathlib.Core.List.{List, _++_}
 use native.Mathlib.Decide.{ℕ-discrete}
 use native.Mathlib.Omega.{arith}
@@ -10,20 +9,19 @@ use lib.Seq.{take-at}
 use borrow.Author.Tests.{eqb-true, le-ltb, le-leb}
 use Rattle.sets.proofs.Places.{list-at, list-length}
 use Rattle.records.specs.Refusals.{Answer, given, Tests, Accepts}
-use Rattle.records.specs.Records.{word, wordOf, wordBytes, longOf, longBytes, flat, written, roomTests}
+use Rattle.records.specs.Records.{word, wordOf, wordBytes, longOf, longBytes, flat, roomTests}
 use Rattle.records.specs.Jobs.{jobAt, jobList, blockTests}
 use Rattle.records.specs.Ranges.{rangeTests}
 use Rattle.records.specs.Calls.{callTests}
 use Rattle.records.specs.declared.job.Job.{Job}
 use Rattle.records.proofs.Outcomes.{accepts, gives, accepts-both, accepts-first, accepts-second}
-use Rattle.records.proofs.FixedWidth.{chunks-flat, length-flat, length-chunks}
+use Rattle.records.proofs.FixedWidth.{chunks-flat, length-flat}
 use Rattle.records.proofs.Reading.{accepted-list, longest-at}
 use Rattle.configuration.specs.declared.setting.Setting.{Setting}
 use Rattle.configuration.specs.Settings.{levelAt}
 use Rattle.configuration.specs.Blocks.{settingsOf, recordTests}
-use Rattle.response.specs.Demand.{bound}
 use Rattle.response.specs.declared.parts.Parts.{Parts}
-use Rattle.response.specs.Breakdown.{noParts, parts}
+use Rattle.response.specs.Breakdown.{noParts}
 use Rattle.response.proofs.Breakdown.{Apart, parts-make, parts-held, parts-fit, parts-none}
 use Rattle.marker.specs.Bounds.{quantaOf, layerOf, aboveOf, boundAt}
 use Rattle.marker.specs.Marks.{boundSize, marked, boundsRoom, boundsTests, boundsOutcome}

@@ -1,6 +1,6 @@
 -- The bytes of a bar, the lines of a job by its bound, and the text of tables that begin with the jobs and settings of a configuration.
 -- Assumes nothing.
-use Prim.Native.Nat.{ℕ, _+_, _-_, _*_, _/_, _≤_, _<_}
+use Prim.Native.Nat.{ℕ, _+_, _-_, _≤_, _<_}
 use mathlib.Core.Path.{_≡_, refl, sym, ap, ap₂, _∙_}
 use mathlib.Core.Bool.{Bool, true, false, cond}
 use mathlib.Core.List.{List, [], _∷_, _++_}
@@ -22,7 +22,7 @@ use Rattle.breakdown.specs.Breakdowns.{breakdownOf}
 use Rattle.writing.specs.Templates.{rowsTo, filled}
 use Rattle.writing.proofs.Writing.{rows-same}
 use Rattle.marking.proofs.HandInTexts.{job-same, setting-same, bound-same}
-use Rattle.explaining.specs.Explanations.{columns, columnOf, cellOf, servedText, unplacedText, unservedText, explainRow, explainText, explainRows, explanation, legend}
+use Rattle.explaining.specs.Explanations.{columnOf, cellOf, servedText, unplacedText, unservedText, explainRow, explainText, explainRows, explanation, legend}
 
 -- ---- the bar
 

@@ -7,7 +7,7 @@ ghost use Rattle.records.specs.Refusals.{given};
 ghost use Rattle.writing.specs.Templates.{rowsTo, Wrote};
 ghost use Rattle.text.specs.Answers.{told};
 ghost use Rattle.marking.specs.Marks.{noneOver};
-ghost use Rattle.explaining.specs.Explanations.{columns, columnOf, cellOf, barText, servedText, explainRow, explainText, explainOutcome};
+ghost use Rattle.explaining.specs.Explanations.{columnOf, cellOf, barText, servedText, explainRow, explainText, explainOutcome};
 use configuration::setting::Setting;
 use records::job::Job;
 use records::refusal::Counted;

@@ -7,7 +7,6 @@ use Prim.Native.Nat.{ℕ, zero, suc, _+_, _-_, _*_, _≤_, _<_}
 use native.Mathlib.Numerals.{add-one}
 use native.Mathlib.Decide.{ℕ-discrete}
 use native.Mathlib.Omega.{arith}
-use lib.Dec.{eqb}
 use lib.ListN.{length, getD}
 use borrow.Author.Tests.{eq-eqb, ne-eqb}
 use Rattle.sets.specs.Sets.{Set, has, remove, Alone}
@@ -19,9 +18,8 @@ use Rattle.response.specs.Demand.{interference, neighbours, otherQuanta, layerS
 use Rattle.response.specs.declared.parts.Parts.{Parts}
 use Rattle.response.specs.Breakdown.{ownWork, reaching, reachingFinish, partsAt, firstParts, secondParts}
 use Rattle.response.proofs.Runs.{plus-from, plus-some}
-use Rattle.response.proofs.Easier.{others-alone, only-alone}
 use Rattle.response.proofs.Breakdown.{bound-reached, bound-end, above-within, neighbours-within}
-use Rattle.finishes.specs.Finishes.{Table, utilisationsOf}
+use Rattle.finishes.specs.Finishes.{utilisationsOf}
 use Rattle.runs.specs.Runs.{ownDemand}
 use Rattle.runs.proofs.OneRun.{MayStart, starts-at-zero, starts-at-finish, foundFrom, finish-found}
 use Rattle.search.proofs.Deciding.{neighbours-set}

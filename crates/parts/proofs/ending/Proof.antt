@@ -12,7 +12,6 @@ use Rattle.response.specs.Demand.{mostInstances}
 use Rattle.finishes.specs.Finishes.{Table, spareOf, carried, longestTime, timeFor}
 use Rattle.finishes.proofs.Climbing.{time-answered}
 use Rattle.runs.specs.Runs.{ownDemand, finishBy}
-use Rattle.parts.specs.declared.End.{End}
 use Rattle.parts.specs.Endings.{endBy}
 use Rattle.parts.proofs.Reached.{turn-hit, turn-miss, turn-end}
 use Rattle.parts.proofs.ending.Statement.{statement}

@@ -1,4 +1,4 @@
-use Prim.Native.Nat.{ℕ, _+_, _-_, _*_, _^_, _≤_, _<_}
+use Prim.Native.Nat.{ℕ, _+_, _-_, _*_, _≤_}
 use mathlib.Core.Path.{_≡_, refl, sym, _∙_, ap, ap₂}
 use native.Mathlib.Nat.{mul-le-mul}
 use native.Mathlib.Numerals.{add-one}
@@ -11,9 +11,8 @@ use Rattle.sets.specs.Sets.{has}
 use Rattle.records.specs.Limits.{mostJobs}
 use Rattle.records.specs.Jobs.{jobAt}
 use Rattle.records.specs.declared.job.Job.{Job}
-use Rattle.response.specs.Demand.{otherQuanta, interference, mostInstances}
+use Rattle.response.specs.Demand.{otherQuanta, interference}
 use Rattle.response.specs.Breakdown.{ownWork, partsAt, firstParts}
-use Rattle.finishes.specs.Finishes.{workBy}
 use Rattle.finishes.proofs.Climbing.{work-within}
 use Rattle.runs.specs.Runs.{ownDemand}
 use Rattle.parts.proofs.Reached.{Found, end-reached, first-found}

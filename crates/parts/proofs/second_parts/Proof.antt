@@ -1,4 +1,4 @@
-use Prim.Native.Nat.{ℕ, _^_, _<_}
+use Prim.Native.Nat.{ℕ}
 use mathlib.Core.Path.{_≡_, sym, _∙_, ap, ap₂}
 use native.Mathlib.Omega.{arith}
 use lib.ListN.{length}
@@ -6,7 +6,7 @@ use borrow.Author.Needs.{needs}
 use Rattle.sets.specs.Sets.{Set, has, join}
 use Rattle.records.specs.Jobs.{jobAt}
 use Rattle.records.specs.declared.job.Job.{Job}
-use Rattle.response.specs.Demand.{interference, neighbours, withNeighbours, only, mostInstances}
+use Rattle.response.specs.Demand.{interference, neighbours, withNeighbours, only}
 use Rattle.response.specs.Breakdown.{partsAt, secondParts}
 use Rattle.response.proofs.Easier.{others-alone, only-alone}
 use Rattle.finishes.proofs.Climbing.{work-within}
