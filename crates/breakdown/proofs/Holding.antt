@@ -26,9 +26,10 @@ use Rattle.response.proofs.Breakdown.{Apart, parts-make, parts-held, parts-fit,
 use Rattle.marker.specs.Bounds.{quantaOf, layerOf, aboveOf, boundAt}
 use Rattle.marker.specs.Marks.{boundSize, marked, boundsRoom, boundsTests, boundsOutcome}
 use Rattle.marker.proofs.Configured.{bound-unplaced, bound-placed}
-use Rattle.breakdown.specs.Breakdowns.{partsIn, breakdownOf, partsSize, partsBytes, partsAtStart, breakdownIn, brokenDown, breakdownTests, breakdownOutcome}
+use Rattle.parts.specs.Breakdowns.{partsIn, breakdownOf}
+use Rattle.parts.proofs.Placed.{parts-unplaced, parts-placed}
+use Rattle.breakdown.specs.Breakdowns.{partsSize, partsBytes, partsAtStart, breakdownIn, brokenDown, breakdownTests, breakdownOutcome}
 use Rattle.breakdown.specs.Promises.{PartsOf, Held, BreakdownPromise}
-use Rattle.breakdown.proofs.Placed.{parts-unplaced, parts-placed}
 
 -- ---- the record
 

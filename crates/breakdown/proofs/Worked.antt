@@ -13,7 +13,8 @@ use Rattle.records.proofs.Cases.{row}
 use Rattle.configuration.specs.Configuration.{placedLevel, scheduled, shaped, mayShare}
 use Rattle.response.specs.Demand.{ceilDiv, work, interference, otherQuanta, layerShare, demand, least, finish, larger, run, largestResponse, bound}
 use Rattle.response.specs.Breakdown.{firstParts, secondParts, parts}
-use Rattle.breakdown.specs.Breakdowns.{partsIn, partsBytes, breakdownOutcome}
+use Rattle.parts.specs.Breakdowns.{partsIn}
+use Rattle.breakdown.specs.Breakdowns.{partsBytes, breakdownOutcome}
 
 -- A job block, the highest quantum of a range from 1 on, a configuration block, an output, and the outcome.
 pub record Case : Type 0 where

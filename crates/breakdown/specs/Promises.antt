@@ -13,7 +13,8 @@ use Rattle.response.specs.declared.parts.Parts.{Parts}
 use Rattle.response.specs.Breakdown.{noParts}
 use Rattle.marker.specs.Bounds.{boundAt}
 use Rattle.marker.specs.Marks.{boundSize, marked, boundsOutcome}
-use Rattle.breakdown.specs.Breakdowns.{breakdownOf, partsSize, breakdownIn, breakdownOutcome}
+use Rattle.parts.specs.Breakdowns.{breakdownOf}
+use Rattle.breakdown.specs.Breakdowns.{partsSize, breakdownIn, breakdownOutcome}
 
 -- Of a job's bound and the parts p that are held of it.
 pub record PartsOf (job : Job) (bound : ℕ) (p : Parts) : Type 0 where

@@ -6,7 +6,6 @@ use records::refusal::Verdict;
 
 pub mod block;
 mod bytes;
-pub mod table;
 
 // The parts of the bounds of a configuration block, full or not, in the output.
 pub fn breakdown(jobs: &[u8], low: u8, high: u8, configuration: &[u8], output: &mut [u8]) -> Verdict
@@ -25,7 +24,7 @@ pub fn breakdown(jobs: &[u8], low: u8, high: u8, configuration: &[u8], output: &
         return Verdict::Refused(refusal);
     }
     let settings = read.settings;
-    let parts = table::breakdown_of(table, settings, n);
-    let wrote = block::write_parts(parts, n, &mut *output);
+    let broken = parts::table::breakdown_of(table, settings, n);
+    let wrote = block::write_parts(broken, n, &mut *output);
     records::refusal::verdict_of(wrote)
 }

@@ -18,7 +18,7 @@ use Rattle.configuration.specs.Settings.{settingAt, levelAt}
 use Rattle.response.specs.declared.parts.Parts.{Parts}
 use Rattle.response.specs.Breakdown.{noParts}
 use Rattle.marker.specs.Bounds.{boundsOf}
-use Rattle.breakdown.specs.Breakdowns.{breakdownOf}
+use Rattle.parts.specs.Breakdowns.{breakdownOf}
 use Rattle.writing.specs.Templates.{rowsTo, filled}
 use Rattle.writing.proofs.Writing.{rows-same}
 use Rattle.marking.proofs.HandInTexts.{job-same, setting-same, bound-same}

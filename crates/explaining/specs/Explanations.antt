@@ -16,7 +16,7 @@ use Rattle.configuration.specs.Blocks.{settingsOf, recordTests}
 use Rattle.response.specs.declared.parts.Parts.{Parts}
 use Rattle.response.specs.Breakdown.{noParts}
 use Rattle.marker.specs.Bounds.{boundsOf, allServed}
-use Rattle.breakdown.specs.Breakdowns.{breakdownOf}
+use Rattle.parts.specs.Breakdowns.{breakdownOf}
 use Rattle.writing.specs.Templates.{rowsTo, filled}
 
 -- ---- the bar

@@ -208,6 +208,6 @@ pub fn explain(
     }
     let settings = read.settings;
     let bounds = marker::table::bounds_of(table, settings, n);
-    let parts = breakdown::table::breakdown_of(table, settings, n);
-    put_explanation(output, table, settings, parts, bounds, Job::at_most(n))
+    let broken = parts::table::breakdown_of(table, settings, n);
+    put_explanation(output, table, settings, broken, bounds, Job::at_most(n))
 }

@@ -19,6 +19,8 @@ use runs::INSTANCES;
 use search::quanta;
 use search::workload;
 
+pub mod table;
+
 // An instance and its finish.
 pub struct End {
     pub instance: u32,
@@ -156,23 +158,20 @@ fn second_bound(
     runs::run_bound(jobs, utilisations, all, quantum, 0, job)
 }
 
-// The parts of the bound of the job at a place, in a layer with a set above. No entry; it judges nothing: its contract says what any
-// numbers give.
-pub fn parts_of(
+// The parts of the bound of the job at a place, in a layer with a set above.
+pub(crate) fn parts_of(
     jobs: [Job; Job::MOST],
+    utilisations: [u32; Job::MOST],
     quanta: [u8; Job::MOST],
     layer: u8,
     above: u8,
     job: usize,
 ) -> Parts
+    requires { ⌜ (utilisations ≡ utilisationsOf jobs) × (job < mostJobs) ⌝ }
     ensures { λ r. ⌜ r ≡ parts jobs quanta (has layer) (has above) job ⌝ }
 {
-    if Job::MOST <= job {
-        return Parts::NONE;
-    }
     let entry = jobs[job];
     let quantum = quanta[job];
-    let utilisations = capacity::utilisations_of(jobs);
     let others = quanta::other_quanta(quanta, layer, job);
     let neighbours = sets::remove(layer, job);
     let first = runs::run_bound(jobs, utilisations, above, quantum, others, entry);

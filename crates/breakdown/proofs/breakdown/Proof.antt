@@ -16,7 +16,8 @@ use Rattle.configuration.specs.Blocks.{settingsOf, recordTests, readSettings}
 use Rattle.configuration.proofs.HandIns.{hand-in-turned, hand-in-on}
 use Rattle.response.specs.declared.parts.Parts.{Parts}
 use Rattle.response.specs.Breakdown.{noParts}
-use Rattle.breakdown.specs.Breakdowns.{partsIn, breakdownOf, partsSize, partsBytes, brokenDown, breakdownOutcome}
+use Rattle.parts.specs.Breakdowns.{partsIn, breakdownOf}
+use Rattle.breakdown.specs.Breakdowns.{partsSize, partsBytes, brokenDown, breakdownOutcome}
 use Rattle.breakdown.proofs.Holding.{breakdown-promise}
 use borrow.Author.Needs.{needs}
 use Rattle.breakdown.proofs.breakdown.Statement.{statement}

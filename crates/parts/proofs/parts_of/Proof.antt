@@ -1,4 +1,4 @@
-use Prim.Native.Nat.{ℕ, _≤_, _<_}
+use Prim.Native.Nat.{ℕ, _<_}
 use mathlib.Core.Path.{_≡_, refl, sym, _∙_, ap, ap₂}
 use mathlib.Core.Bool.{Bool, cond}
 use mathlib.Core.Logic.{_≢_}
@@ -17,22 +17,10 @@ use Rattle.response.proofs.Breakdown.{parts-none, parts-first, parts-second, se
 use Rattle.finishes.specs.Finishes.{Table, utilisationsOf}
 use Rattle.runs.specs.Runs.{runBound}
 use Rattle.runs.proofs.OneRun.{run-bound}
-use Rattle.search.specs.Search.{plainWorkload}
-use Rattle.search.proofs.BothBounds.{bound-plain, by-past}
 use Rattle.search.proofs.Deciding.{with-set}
 use Rattle.parts.proofs.Reached.{no-neighbours}
 use Rattle.parts.proofs.parts_of.Statement.{statement}
 use Rattle.parts.proofs.parts_of.Tie as tie
-
-returns : tie.Need-returns
-returns c =
-    let a = c .before .args in
-    let s = has (a .layer) in
-    let o = has (a .above) in
-    let eight : length (a .t1) ≡ mostJobs = search needs in
-    let past : length (a .t1) ≤ a .job = omega (arith, c .if1 .taken) in
-    sym (parts-none (a .t1) (a .t2) s o (a .job)
-    (sym (bound-plain (a .t1) (a .t2) s o (a .job)) ∙ by-past (plainWorkload (a .t1)) (a .t2) s o (a .job) past))
 
 mul-entry : tie.Need-mul-entry
 mul-entry c = search needs
@@ -42,9 +30,6 @@ array-copy-out-entry c = search needs
 
 array-read-quantum : tie.Need-array-read-quantum
 array-read-quantum c = search needs
-
-utilisations-of-requires : tie.Need-utilisations-of-requires
-utilisations-of-requires c κs = search needs
 
 other-quanta-requires : tie.Need-other-quanta-requires
 other-quanta-requires c κs = search needs
@@ -63,11 +48,8 @@ lesser-requires c κs = search needs
 
 -- After the lesser of the two bounds: each is the definition's.
 module _ (c : tie.After-lesser) where
-  abbrev u : tie.After-utilisations-of
-  u = c .before .before .before .before .before
-
   abbrev start : tie.Start
-  start = u .before .before .before
+  start = c .before .before .before .before .before .before
 
   abbrev s : Set
   s = has (start .args .layer)
@@ -76,97 +58,95 @@ module _ (c : tie.After-lesser) where
   o = has (start .args .above)
 
   place : start .args .job < mostJobs
-  place = omega (arith, u .before .before .if1 .left)
+  place = start .pre .1
 
   -- One of the two, from the utilisations, a set above and a sum of other quanta.
-  one-bound : (layer above rest : Set) (others : ℕ) → rest ≡ above → others ≡ otherQuanta (length (start .args .t1)) (start .args .t2) layer (start .args .job)
+  one-bound : (layer above rest : Set) (others : ℕ) → rest ≡ above → others ≡ otherQuanta (length (start .args .t1)) (start .args .t3) layer (start .args .job)
       → let a = start .args in
-      runBound (record { jobs = a .t1; utilisations = u .utilisations-of .result }) rest (getD (a .t2) (a .job) 0) others (jobAt (a .t1) (a .job))
-      ≡ firstBound (a .t1) (a .t2) layer above (a .job)
+      runBound (record { jobs = a .t1; utilisations = start .args .utilisations }) rest (getD (a .t3) (a .job) 0) others (jobAt (a .t1) (a .job))
+      ≡ firstBound (a .t1) (a .t3) layer above (a .job)
   one-bound layer above rest others e f =
       let a = start .args in
-      let go : List ℕ → Set → ℕ → ℕ = λ x r y. runBound (record { jobs = a .t1; utilisations = x }) r (getD (a .t2) (a .job) 0) y (jobAt (a .t1) (a .job)) in
-      ap₂ (λ (x : List ℕ) (r : Set). go x r others) (u .utilisations-of .ensures) e ∙ ap (go (utilisationsOf (a .t1)) above) f ∙ run-bound (a .t1) (a .t2) layer above (a .job)
+      let go : List ℕ → Set → ℕ → ℕ = λ x r y. runBound (record { jobs = a .t1; utilisations = x }) r (getD (a .t3) (a .job) 0) y (jobAt (a .t1) (a .job)) in
+      ap₂ (λ (x : List ℕ) (r : Set). go x r others) (start .pre .0) e ∙ ap (go (utilisationsOf (a .t1)) above) f ∙ run-bound (a .t1) (a .t3) layer above (a .job)
 
-  first : let a = start .args in c .before .before .run-bound .result ≡ firstBound (a .t1) (a .t2) s o (a .job)
+  first : let a = start .args in c .before .before .run-bound .result ≡ firstBound (a .t1) (a .t3) s o (a .job)
   first =
       let a = start .args in
       let eight : length (a .t1) ≡ mostJobs = search needs in
       let others = c .before .before .before .before .other-quanta in
-      c .before .before .run-bound .ensures ∙ one-bound s o o _ refl (others .ensures ∙ ap (λ (n : ℕ). otherQuanta n (a .t2) s (a .job)) (sym eight))
+      c .before .before .run-bound .ensures ∙ one-bound s o o _ refl (others .ensures ∙ ap (λ (n : ℕ). otherQuanta n (a .t3) s (a .job)) (sym eight))
 
-  second : let a = start .args in c .before .second-bound .result ≡ secondBound (a .t1) (a .t2) s o (a .job)
+  second : let a = start .args in c .before .second-bound .result ≡ secondBound (a .t1) (a .t3) s o (a .job)
   second =
       let a = start .args in
       let beside = c .before .before .before .remove in
       let k = a .job in
-      let table : Table = record { jobs = a .t1; utilisations = u .utilisations-of .result } in
-      let given-by : Bool → ℕ = λ b. cond b (c .before .before .run-bound .result) (runBound table (has (join (a .above) (beside .result))) (getD (a .t2) k 0) 0 (jobAt (a .t1) k)) in
+      let table : Table = record { jobs = a .t1; utilisations = start .args .utilisations } in
+      let given-by : Bool → ℕ = λ b. cond b (c .before .before .run-bound .result) (runBound table (has (join (a .above) (beside .result))) (getD (a .t3) k 0) 0 (jobAt (a .t1) k)) in
       elim (ℕ-discrete (beside .result) 0) [
         | yes z ↦
             c .before .second-bound .ensures ∙ ap given-by (eq-eqb (beside .result) 0 z)
-            ∙ first ∙ sym (second-first (a .t1) k (a .t2) s o (no-neighbours (length (a .t1)) (a .layer) k place (sym (beside .ensures) ∙ z)))
+            ∙ first ∙ sym (second-first (a .t1) k (a .t3) s o (no-neighbours (length (a .t1)) (a .layer) k place (sym (beside .ensures) ∙ z)))
         | no z ↦
             c .before .second-bound .ensures ∙ ap given-by (ne-eqb (beside .result) 0 z)
             ∙ one-bound (only k) (withNeighbours s o k) (has (join (a .above) (beside .result))) 0
             (ap has (ap (join (a .above)) (beside .ensures)) ∙ with-set (a .layer) (a .above) k place)
-            (sym (others-alone (length (a .t1)) k (a .t2) (only k) (only-alone (length (a .t1)) k)))
+            (sym (others-alone (length (a .t1)) k (a .t3) (only k) (only-alone (length (a .t1)) k)))
       ]
 
-  is-bound : let a = start .args in c .lesser .result ≡ bound (a .t1) (a .t2) s o (a .job)
+  is-bound : let a = start .args in c .lesser .result ≡ bound (a .t1) (a .t3) s o (a .job)
   unfolding bound
   is-bound = c .lesser .ensures ∙ ap₂ lesser first second
 
-  not-first : let a = start .args in c .lesser .result ≢ c .before .before .run-bound .result → bound (a .t1) (a .t2) s o (a .job) ≢ firstBound (a .t1) (a .t2) s o (a .job)
+  not-first : let a = start .args in c .lesser .result ≢ c .before .before .run-bound .result → bound (a .t1) (a .t3) s o (a .job) ≢ firstBound (a .t1) (a .t3) s o (a .job)
   not-first d e = d (is-bound ∙ e ∙ sym first)
 
-returns-2 : tie.Need-returns-2
-returns-2 c =
+returns : tie.Need-returns
+returns c =
     let l = c .before in
     let a = start l .args in
-    sym (parts-none (a .t1) (a .t2) (s l) (o l) (a .job) (sym (is-bound l) ∙ c .if2 .taken))
+    sym (parts-none (a .t1) (a .t3) (s l) (o l) (a .job) (sym (is-bound l) ∙ c .if1 .taken))
 
 first-parts-requires : tie.Need-first-parts-requires
 first-parts-requires c κs =
     let l = c .before .before in
-    (u l .utilisations-of .ensures, place l, omega (arith, c .before .if2 .left), omega (arith, c .if3 .taken, first l))
+    (start l .pre .0, place l, omega (arith, c .before .if1 .left), omega (arith, c .if2 .taken, first l))
 
-returns-3 : tie.Need-returns-3
-returns-3 c =
+returns-2 : tie.Need-returns-2
+returns-2 c =
     let l = c .before .before .before in
     let a = start l .args in
     c .first-parts .ensures
-    ∙ sym (parts-first (a .t1) (a .t2) (s l) (o l) (a .job) (λ z. c .before .before .if2 .left (is-bound l ∙ z)) (omega (arith, is-bound l, c .before .if3 .taken, first l)))
+    ∙ sym (parts-first (a .t1) (a .t3) (s l) (o l) (a .job) (λ z. c .before .before .if1 .left (is-bound l ∙ z)) (omega (arith, is-bound l, c .before .if2 .taken, first l)))
 
 second-parts-requires : tie.Need-second-parts-requires
 second-parts-requires c κs =
     let l = c .before .before in
     let a = start l .args in
-    (u l .utilisations-of .ensures, place l, omega (arith, c .before .if2 .left), is-bound l ∙ second-decides (a .t1) (a .t2) (s l) (o l) (a .job) (not-first l (c .if3 .left)))
+    (start l .pre .0, place l, omega (arith, c .before .if1 .left), is-bound l ∙ second-decides (a .t1) (a .t3) (s l) (o l) (a .job) (not-first l (c .if2 .left)))
 
-returns-4 : tie.Need-returns-4
-returns-4 c =
+returns-3 : tie.Need-returns-3
+returns-3 c =
     let l = c .before .before .before in
     let a = start l .args in
     c .second-parts .ensures
-    ∙ sym (parts-second (a .t1) (a .t2) (s l) (o l) (a .job) (λ z. c .before .before .if2 .left (is-bound l ∙ z)) (not-first l (c .before .if3 .left)))
+    ∙ sym (parts-second (a .t1) (a .t3) (s l) (o l) (a .job) (λ z. c .before .before .if1 .left (is-bound l ∙ z)) (not-first l (c .before .if2 .left)))
 
 pub parts-of-spec : {M : Type 1} → statement M
 parts-of-spec =
     tie.close
     (tie.spec
-    returns
     mul-entry
     array-copy-out-entry
     array-read-quantum
-    utilisations-of-requires
     other-quanta-requires
     remove-requires
     run-bound-requires
     second-bound-requires
     lesser-requires
-    returns-2
+    returns
     first-parts-requires
-    returns-3
+    returns-2
     second-parts-requires
-    returns-4)
+    returns-3)

@@ -20,7 +20,7 @@ use Rattle.response.specs.Breakdown.{noParts, parts}
 use Rattle.response.proofs.Breakdown.{parts-same, parts-take}
 use Rattle.marker.specs.Bounds.{quantaOf, layerOf, aboveOf}
 use Rattle.marker.proofs.Configured.{level-same, quantum-same, none-past, as-collected}
-use Rattle.breakdown.specs.Breakdowns.{partsIn, breakdownOf}
+use Rattle.parts.specs.Breakdowns.{partsIn, breakdownOf}
 
 module _ (jobs : List Job) (settings : List Setting) (k : ℕ) where
   pub parts-unplaced : levelAt settings k ≡ 0 → partsIn jobs settings k ≡ noParts
