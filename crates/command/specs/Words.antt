@@ -10,30 +10,31 @@ use Rattle.lists.specs.declared.words.WordAnswer.{WordAnswer}
 use Rattle.lists.specs.declared.words.WordAnswer.the-variants.{Number, Wrong}
 use Rattle.lists.specs.Words.{isMark, before, numberOf}
 use Rattle.command.specs.declared.Word.{Word}
-use Rattle.command.specs.declared.Word.the-variants.{Key, Mark, Bounds, Loader, Block, Text, Install, Help, Unknown}
+use Rattle.command.specs.declared.Word.the-variants.{Key, Mark, Bounds, Explain, Loader, Block, Text, Install, Help, Unknown}
 use Rattle.command.specs.declared.Argument.{Argument}
 use Rattle.command.specs.declared.Argument.the-variants.{Quanta, Priorities, Blocks, Configuration, Back, Bytes, End, UnknownOption, Name}
 use Rattle.command.specs.declared.span.Quanta.{Quanta as Chosen}
 use Rattle.command.specs.declared.span.Span.{Span}
 use Rattle.command.specs.declared.span.Span.the-variants.{Between, Wrong as SpanWrong}
 
--- `install` and `help`, which is `--help` and `-h` too.
+-- `block`, `text`, `install` and `help`, which is `--help` and `-h` too.
 unfoldable pub otherWord : List ℕ → Word
 otherWord argument =
-    cond (sameBytes argument (105 ∷ 110 ∷ 115 ∷ 116 ∷ 97 ∷ 108 ∷ 108 ∷ [])) Install
+    cond (sameBytes argument (98 ∷ 108 ∷ 111 ∷ 99 ∷ 107 ∷ [])) Block
+    (cond (sameBytes argument (116 ∷ 101 ∷ 120 ∷ 116 ∷ [])) Text
+    (cond (sameBytes argument (105 ∷ 110 ∷ 115 ∷ 116 ∷ 97 ∷ 108 ∷ 108 ∷ [])) Install
     (cond (sameBytes argument (104 ∷ 101 ∷ 108 ∷ 112 ∷ [])) Help
     (cond (sameBytes argument (45 ∷ 45 ∷ 104 ∷ 101 ∷ 108 ∷ 112 ∷ [])) Help
-    (cond (sameBytes argument (45 ∷ 104 ∷ [])) Help Unknown)))
+    (cond (sameBytes argument (45 ∷ 104 ∷ [])) Help Unknown)))))
 
--- `key`, `mark`, `bounds`, `loader`, `block` and `text`.
+-- `key`, `mark`, `bounds`, `explain` and `loader`.
 unfoldable pub wordOf : List ℕ → Word
 wordOf argument =
     cond (sameBytes argument (107 ∷ 101 ∷ 121 ∷ [])) Key
     (cond (sameBytes argument (109 ∷ 97 ∷ 114 ∷ 107 ∷ [])) Mark
     (cond (sameBytes argument (98 ∷ 111 ∷ 117 ∷ 110 ∷ 100 ∷ 115 ∷ [])) Bounds
-    (cond (sameBytes argument (108 ∷ 111 ∷ 97 ∷ 100 ∷ 101 ∷ 114 ∷ [])) Loader
-    (cond (sameBytes argument (98 ∷ 108 ∷ 111 ∷ 99 ∷ 107 ∷ [])) Block
-    (cond (sameBytes argument (116 ∷ 101 ∷ 120 ∷ 116 ∷ [])) Text (otherWord argument))))))
+    (cond (sameBytes argument (101 ∷ 120 ∷ 112 ∷ 108 ∷ 97 ∷ 105 ∷ 110 ∷ [])) Explain
+    (cond (sameBytes argument (108 ∷ 111 ∷ 97 ∷ 100 ∷ 101 ∷ 114 ∷ [])) Loader (otherWord argument)))))
 
 -- It begins with two hyphens.
 unfoldable pub isOption : List ℕ → Bool

@@ -11,6 +11,7 @@ pub enum Word {
     Key,
     Mark,
     Bounds,
+    Explain,
     Loader,
     Block,
     Text,
@@ -36,6 +37,12 @@ pub enum Argument {
 fn other_word(argument: &[u8]) -> Word
     ensures { λ r. ⌜ r ≡ otherWord (now (argument .entry)) ⌝ }
 {
+    if same_bytes(argument, b"block") {
+        return Word::Block;
+    }
+    if same_bytes(argument, b"text") {
+        return Word::Text;
+    }
     if same_bytes(argument, b"install") {
         return Word::Install;
     }
@@ -64,14 +71,11 @@ pub fn word_of(argument: &[u8]) -> Word
     if same_bytes(argument, b"bounds") {
         return Word::Bounds;
     }
+    if same_bytes(argument, b"explain") {
+        return Word::Explain;
+    }
     if same_bytes(argument, b"loader") {
         return Word::Loader;
-    }
-    if same_bytes(argument, b"block") {
-        return Word::Block;
-    }
-    if same_bytes(argument, b"text") {
-        return Word::Text;
     }
     other_word(argument)
 }

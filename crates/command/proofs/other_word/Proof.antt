@@ -44,9 +44,29 @@ returns-4 : tie.Need-returns-4
 unfolding otherWord
 returns-4 c = simp (sym (c .before .before .before .before .before .before .before .before .before .before .same-bytes .ensures) ∙ c .before .before .before .before .before .before .before .before .before .if1 .left, sym (c .before .before .before .before .before .before .before .same-bytes2 .ensures) ∙ c .before .before .before .before .before .before .if2 .left, sym (c .before .before .before .before .same-bytes3 .ensures) ∙ c .before .before .before .if3 .left, sym (c .before .same-bytes4 .ensures) ∙ c .if4 .taken)
 
+slice-aggregate-same-bytes-5 : tie.Need-slice-aggregate-same-bytes-5
+slice-aggregate-same-bytes-5 c = search needs
+
+same-bytes-requires-5 : tie.Need-same-bytes-requires-5
+same-bytes-requires-5 c κs = search needs
+
 returns-5 : tie.Need-returns-5
 unfolding otherWord
-returns-5 c = simp (sym (c .before .before .before .before .before .before .before .before .before .before .same-bytes .ensures) ∙ c .before .before .before .before .before .before .before .before .before .if1 .left, sym (c .before .before .before .before .before .before .before .same-bytes2 .ensures) ∙ c .before .before .before .before .before .before .if2 .left, sym (c .before .before .before .before .same-bytes3 .ensures) ∙ c .before .before .before .if3 .left, sym (c .before .same-bytes4 .ensures) ∙ c .if4 .left)
+returns-5 c = simp (sym (c .before .before .before .before .before .before .before .before .before .before .before .before .before .same-bytes .ensures) ∙ c .before .before .before .before .before .before .before .before .before .before .before .before .if1 .left, sym (c .before .before .before .before .before .before .before .before .before .before .same-bytes2 .ensures) ∙ c .before .before .before .before .before .before .before .before .before .if2 .left, sym (c .before .before .before .before .before .before .before .same-bytes3 .ensures) ∙ c .before .before .before .before .before .before .if3 .left, sym (c .before .before .before .before .same-bytes4 .ensures) ∙ c .before .before .before .if4 .left, sym (c .before .same-bytes5 .ensures) ∙ c .if5 .taken)
+
+slice-aggregate-same-bytes-6 : tie.Need-slice-aggregate-same-bytes-6
+slice-aggregate-same-bytes-6 c = search needs
+
+same-bytes-requires-6 : tie.Need-same-bytes-requires-6
+same-bytes-requires-6 c κs = search needs
+
+returns-6 : tie.Need-returns-6
+unfolding otherWord
+returns-6 c = simp (sym (c .before .before .before .before .before .before .before .before .before .before .before .before .before .before .before .before .same-bytes .ensures) ∙ c .before .before .before .before .before .before .before .before .before .before .before .before .before .before .before .if1 .left, sym (c .before .before .before .before .before .before .before .before .before .before .before .before .before .same-bytes2 .ensures) ∙ c .before .before .before .before .before .before .before .before .before .before .before .before .if2 .left, sym (c .before .before .before .before .before .before .before .before .before .before .same-bytes3 .ensures) ∙ c .before .before .before .before .before .before .before .before .before .if3 .left, sym (c .before .before .before .before .before .before .before .same-bytes4 .ensures) ∙ c .before .before .before .before .before .before .if4 .left, sym (c .before .before .before .before .same-bytes5 .ensures) ∙ c .before .before .before .if5 .left, sym (c .before .same-bytes6 .ensures) ∙ c .if6 .taken)
+
+returns-7 : tie.Need-returns-7
+unfolding otherWord
+returns-7 c = simp (sym (c .before .before .before .before .before .before .before .before .before .before .before .before .before .before .before .before .same-bytes .ensures) ∙ c .before .before .before .before .before .before .before .before .before .before .before .before .before .before .before .if1 .left, sym (c .before .before .before .before .before .before .before .before .before .before .before .before .before .same-bytes2 .ensures) ∙ c .before .before .before .before .before .before .before .before .before .before .before .before .if2 .left, sym (c .before .before .before .before .before .before .before .before .before .before .same-bytes3 .ensures) ∙ c .before .before .before .before .before .before .before .before .before .if3 .left, sym (c .before .before .before .before .before .before .before .same-bytes4 .ensures) ∙ c .before .before .before .before .before .before .if4 .left, sym (c .before .before .before .before .same-bytes5 .ensures) ∙ c .before .before .before .if5 .left, sym (c .before .same-bytes6 .ensures) ∙ c .if6 .left)
 
 pub other-word-spec : {M : Type 1} → statement M
 other-word-spec =
@@ -64,4 +84,10 @@ other-word-spec =
     slice-aggregate-same-bytes-4
     same-bytes-requires-4
     returns-4
-    returns-5)
+    slice-aggregate-same-bytes-5
+    same-bytes-requires-5
+    returns-5
+    slice-aggregate-same-bytes-6
+    same-bytes-requires-6
+    returns-6
+    returns-7)
