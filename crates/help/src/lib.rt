@@ -9,6 +9,7 @@ fn all_words(fd: i32) -> bool {
   key LIST                    a configuration that passes, or which jobs cannot be placed
   mark LIST HAND-IN..         whether configurations that were handed in pass
   bounds LIST CONFIGURATION   the bounds of a configuration, full or not
+  explain LIST CONFIGURATION  where the ticks of each bound go
   loader LIST CONFIGURATION   a configuration as the kernel records of a box loader, and back
   block FILE                  the block of a text
   text FILE                   the text of a block
@@ -16,7 +17,7 @@ fn all_words(fd: i32) -> bool {
   help [WORD]                 this, or more about a word
 
   --quanta LOW-HIGH           the quanta that are permitted; else those of the list, else 1-4
-  --block                     the files are blocks and not texts (key, mark, bounds, loader)
+  --block                     the files are blocks and not texts (all words with a LIST)
   --configuration             the file is a configuration and not a list (block, text)
   --priorities LOWEST-HIGHEST the priorities that the kernel has (loader)
   --back                      kernel records are read, and their configuration written (loader)
@@ -70,6 +71,30 @@ fn bounds(fd: i32) -> bool {
 
 Prints a line per job, id level policy quantum bound; a job that is not placed, or has no
 bound up to its deadline, has bound 0. The status is 0 where no bound is 0, else 1.
+",
+    )
+}
+
+fn explain(fd: i32) -> bool {
+    io::write_all(
+        fd,
+        b"ruzhtylen explain [--quanta LOW-HIGH] [--block] LIST CONFIGURATION
+
+Prints two lines per job: the sum that makes its bound, with its deadline; and a bar from
+the start of the run to the deadline, with the bound and the instance that decide.
+
+  # own     the job's own work up to that instance
+  = layer   what the other jobs of its level add
+  - above   the work of the jobs above it, those not placed among them
+  ~ late    the job's delay
+  . spare   what is left up to the deadline
+
+The sum takes off the release of that instance; instances count from 0. Bound 1 counts the
+others of the level by their quanta, bound 2 by their work; the lesser one decides. A bar
+has 50 columns, rounded down: it reaches | only where the bound is the deadline.
+
+A job that is not placed, or has no bound up to its deadline, has one line that says so.
+The status is 0 where no bound is 0, else 1.
 ",
     )
 }
@@ -153,6 +178,7 @@ pub fn help(fd: i32, word: Word) -> bool {
         Word::Key => both(key(fd), list(fd)),
         Word::Mark => both(mark(fd), configuration(fd)),
         Word::Bounds => both(bounds(fd), configuration(fd)),
+        Word::Explain => both(explain(fd), configuration(fd)),
         Word::Loader => loader(fd),
         Word::Block => block(fd),
         Word::Text => text(fd),
