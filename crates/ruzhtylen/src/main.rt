@@ -66,6 +66,18 @@ fn bounds(asked: Asked) -> u8 {
     words::bounds(asked)
 }
 
+fn explain(asked: Asked) -> u8 {
+    if asked.configuration {
+        return wrong(b"--configuration is an option of block and text\n");
+    }
+    if asked.names != 2 {
+        return wrong(
+            b"explain takes a LIST and a CONFIGURATION; 'ruzhtylen help explain' says more\n",
+        );
+    }
+    words::explain(asked)
+}
+
 fn loader(asked: Asked) -> u8 {
     if asked.configuration {
         return wrong(b"--configuration is an option of block and text\n");
@@ -85,10 +97,10 @@ fn loader(asked: Asked) -> u8 {
 
 fn change_form(asked: Asked, to_block: bool) -> u8 {
     if asked.ranged {
-        return wrong(b"--quanta is an option of key, mark, bounds and loader\n");
+        return wrong(b"--quanta is an option of key, mark, bounds, explain and loader\n");
     }
     if asked.blocks {
-        return wrong(b"--block is an option of key, mark, bounds and loader\n");
+        return wrong(b"--block is an option of key, mark, bounds, explain and loader\n");
     }
     if asked.names != 1 {
         return wrong(b"block and text take one FILE; 'ruzhtylen help' says more\n");
@@ -115,17 +127,10 @@ fn unknown(i: usize) -> u8 {
 }
 
 fn is_unknown(word: Word) -> bool {
-    match word {
-        Word::Key => false,
-        Word::Mark => false,
-        Word::Bounds => false,
-        Word::Loader => false,
-        Word::Block => false,
-        Word::Text => false,
-        Word::Install => false,
-        Word::Help => false,
-        Word::Unknown => true,
+    if let Word::Unknown = word {
+        return true;
     }
+    false
 }
 
 fn say_help() -> u8 {
@@ -161,20 +166,13 @@ fn install() -> u8 {
 }
 
 fn is_loader(word: Word) -> bool {
-    match word {
-        Word::Key => false,
-        Word::Mark => false,
-        Word::Bounds => false,
-        Word::Loader => true,
-        Word::Block => false,
-        Word::Text => false,
-        Word::Install => false,
-        Word::Help => false,
-        Word::Unknown => false,
+    if let Word::Loader = word {
+        return true;
     }
+    false
 }
 
-// Answers a word with its arguments, and gives the status.
+// Answers a word that takes files, and gives the status.
 fn answer(word: Word, asked: Asked) -> u8 {
     if asked.faulty {
         return say::NOT_ANSWERED;
@@ -188,36 +186,20 @@ fn answer(word: Word, asked: Asked) -> u8 {
         Word::Key => key(asked),
         Word::Mark => mark(asked),
         Word::Bounds => bounds(asked),
+        Word::Explain => explain(asked),
         Word::Loader => loader(asked),
         Word::Block => change_form(asked, true),
-        Word::Text => change_form(asked, false),
-        Word::Install => install(),
-        Word::Help => say_help(),
-        Word::Unknown => no_word(),
-    }
-}
-
-// Whether the arguments after the word are options and names.
-fn takes_files(word: Word) -> bool {
-    match word {
-        Word::Key => true,
-        Word::Mark => true,
-        Word::Bounds => true,
-        Word::Loader => true,
-        Word::Block => true,
-        Word::Text => true,
-        Word::Install => false,
-        Word::Help => false,
-        Word::Unknown => false,
+        _ => change_form(asked, false),
     }
 }
 
 fn main() {
     let word = word_at(1);
-    let asked = if takes_files(word) {
-        asked::read()
-    } else {
-        asked::nothing()
+    let status = match word {
+        Word::Install => install(),
+        Word::Help => say_help(),
+        Word::Unknown => no_word(),
+        _ => answer(word, asked::read()),
     };
-    say::status(answer(word, asked));
+    say::status(status);
 }

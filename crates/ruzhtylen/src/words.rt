@@ -32,6 +32,24 @@ pub fn key(asked: Asked) -> u8 {
     }
 }
 
+// Prints what is told of a configuration, or says why it is refused; the configuration is argument i.
+fn tell(
+    i: usize,
+    list: Source,
+    quanta: Quanta,
+    hand_in: Source,
+    answer: Answered,
+    text: &[u8],
+) -> u8 {
+    match answer {
+        Answered::Yes => say::answer(say::YES, text),
+        Answered::No => say::answer(say::NO, text),
+        Answered::Refused(refusal) => {
+            refused::refuse_hand_in(i, hand_in, list, quanta, refusal.number())
+        }
+    }
+}
+
 // The bounds of a configuration for a list and a range that are accepted.
 fn bounds_of(i: usize, list: Source, quanta: Quanta, hand_in: Source) -> u8 {
     let jobs = list.bytes;
@@ -48,16 +66,30 @@ fn bounds_of(i: usize, list: Source, quanta: Quanta, hand_in: Source) -> u8 {
     );
     let length = told.length;
     let answer = told.answer;
-    match answer {
-        Answered::Yes => say::answer(say::YES, &output[..length]),
-        Answered::No => say::answer(say::NO, &output[..length]),
-        Answered::Refused(refusal) => {
-            refused::refuse_hand_in(i, hand_in, list, quanta, refusal.number())
-        }
-    }
+    tell(i, list, quanta, hand_in, answer, &output[..length])
 }
 
-pub fn bounds(asked: Asked) -> u8 {
+// Where the ticks of these bounds go.
+fn ticks_of(i: usize, list: Source, quanta: Quanta, hand_in: Source) -> u8 {
+    let jobs = list.bytes;
+    let jobs_kept = slices::within(list.kept, &jobs);
+    let bytes = hand_in.bytes;
+    let kept = slices::within(hand_in.kept, &bytes);
+    let mut output = [0u8; explaining::SIZE];
+    let told = explaining::explain(
+        &jobs[..jobs_kept],
+        quanta.low,
+        quanta.high,
+        &bytes[..kept],
+        &mut output,
+    );
+    let length = told.length;
+    let answer = told.answer;
+    tell(i, list, quanta, hand_in, answer, &output[..length])
+}
+
+// The bounds of a configuration, or where their ticks go.
+fn of_configuration(asked: Asked, explained: bool) -> u8 {
     let list = source::load(asked.first, Form::Job, asked.blocks);
     if !list.ok {
         return say::NOT_ANSWERED;
@@ -70,7 +102,18 @@ pub fn bounds(asked: Asked) -> u8 {
     if !hand_in.ok {
         return say::NOT_ANSWERED;
     }
+    if explained {
+        return ticks_of(asked.second, list, quanta, hand_in);
+    }
     bounds_of(asked.second, list, quanta, hand_in)
+}
+
+pub fn bounds(asked: Asked) -> u8 {
+    of_configuration(asked, false)
+}
+
+pub fn explain(asked: Asked) -> u8 {
+    of_configuration(asked, true)
 }
 
 // The block of a text.

@@ -31,47 +31,17 @@ slice-aggregate-bounds-2 c = search needs
 bounds-requires : tie.Need-bounds-requires
 bounds-requires c κs = search needs
 
-enum-told : tie.Need-enum-told
-enum-told c = search needs
-
 array-share-prefix-output : tie.Need-array-share-prefix-output
 array-share-prefix-output c = search needs
 
-slice-aggregate-answer : tie.Need-slice-aggregate-answer
-slice-aggregate-answer c = sym (length-take-le _ _ (c .before .before .before .bounds .ensures .2))
+slice-aggregate-tell : tie.Need-slice-aggregate-tell
+slice-aggregate-tell c = sym (length-take-le _ _ (c .before .bounds .ensures .2))
 
-answer-requires : tie.Need-answer-requires
-answer-requires c κs = search needs
-
-enum-told-2 : tie.Need-enum-told-2
-enum-told-2 c = search needs
-
-array-share-prefix-output-2 : tie.Need-array-share-prefix-output-2
-array-share-prefix-output-2 c = search needs
-
-slice-aggregate-answer-2 : tie.Need-slice-aggregate-answer-2
-slice-aggregate-answer-2 c = sym (length-take-le _ _ (c .before .before .before .bounds .ensures .2))
-
-answer-requires-2 : tie.Need-answer-requires-2
-answer-requires-2 c κs = search needs
-
-enum-known-answer : tie.Need-enum-known-answer
-enum-known-answer c = search needs
-
-number-requires : tie.Need-number-requires
-number-requires c κs = search needs
-
-refuse-hand-in-requires : tie.Need-refuse-hand-in-requires
-refuse-hand-in-requires c κs = search needs
+tell-requires : tie.Need-tell-requires
+tell-requires c κs = search needs
 
 returns : tie.Need-returns
 returns c = search needs
-
-returns-2 : tie.Need-returns-2
-returns-2 c = search needs
-
-returns-3 : tie.Need-returns-3
-returns-3 c = search needs
 
 pub bounds-of-spec : {M : Type 1} → statement M
 bounds-of-spec =
@@ -86,17 +56,7 @@ bounds-of-spec =
     array-share-prefix-bytes
     slice-aggregate-bounds-2
     bounds-requires
-    enum-told
     array-share-prefix-output
-    slice-aggregate-answer
-    answer-requires
-    enum-told-2
-    array-share-prefix-output-2
-    slice-aggregate-answer-2
-    answer-requires-2
-    enum-known-answer
-    number-requires
-    refuse-hand-in-requires
-    returns
-    returns-2
-    returns-3)
+    slice-aggregate-tell
+    tell-requires
+    returns)
