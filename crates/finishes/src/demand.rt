@@ -3,6 +3,8 @@ ghost use mathlib.Core.Path.{_≡_};
 ghost use Prim.Native.Nat.{_^_, _<_, _≤_};
 ghost use Rattle.sets.specs.Sets.{has};
 ghost use Rattle.response.specs.Demand.{ceilDiv, work, interference};
+ghost use Rattle.finishes.specs.Finishes.{workBy};
+use crate::finish::LONGEST_TIME;
 use records::job::Job;
 
 // a divided by b, rounded up; 0 where b is 0.
@@ -67,4 +69,23 @@ pub(crate) fn works_of(jobs: [Job; Job::MOST], long: u8, short: u8, t: u32) -> W
         long: of_long,
         short: of_short,
     }
+}
+
+// The same of one set, for callers that know a finish: 0 past the last time that is sought. It is no entry and judges nothing. The loop is
+// its own, since the compiler puts `interference` into the search only while the search alone calls it.
+pub fn work_by(jobs: [Job; Job::MOST], set: u8, t: u32) -> u64
+    ensures { λ r. ⌜ r ≡ workBy jobs (has set) t ⌝ }
+{
+    if LONGEST_TIME < t {
+        return 0;
+    }
+    let mut sum: u64 = 0;
+    let mut i = 0;
+    while i < Job::MOST {
+        if sets::contains(set, i) {
+            sum += work(jobs[i], t);
+        }
+        i += 1;
+    }
+    sum
 }

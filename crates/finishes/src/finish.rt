@@ -6,14 +6,14 @@ ghost use Rattle.sets.specs.Sets.{has, Collects};
 ghost use Rattle.records.specs.Limits.{mostJobs};
 ghost use Rattle.records.specs.Jobs.{jobAt};
 ghost use Rattle.response.specs.Demand.{interference};
-ghost use Rattle.finishes.specs.Finishes.{whole, climb, farTime, timeFor, longestTime, timeWithin, workBy};
+ghost use Rattle.finishes.specs.Finishes.{whole, climb, farTime, timeFor, longestTime, timeWithin};
 use crate::capacity;
 use crate::capacity::WHOLE;
 use crate::demand;
 use records::job::Job;
 
 // The last time that is sought: no deadline of the 64 instances of a job lies past it.
-const LONGEST_TIME: u32 = 4194240;
+pub(crate) const LONGEST_TIME: u32 = 4194240;
 
 // The plain steps before estimates are made, so that short searches need none.
 const PLAIN_STEPS: u32 = 4;
@@ -165,14 +165,4 @@ pub fn time_for(
         return 0;
     }
     time_within(jobs, utilisations, above, spare, carry, own, limit, before)
-}
-
-// The work of the jobs of a set within t ticks. It is no entry and judges nothing: a time past the last that is sought gives 0.
-pub fn work_by(jobs: [Job; Job::MOST], set: u8, t: u32) -> u64
-    ensures { λ r. ⌜ r ≡ workBy jobs (has set) t ⌝ }
-{
-    if LONGEST_TIME < t {
-        return 0;
-    }
-    demand::interference(jobs, set, t)
 }

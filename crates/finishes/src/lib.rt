@@ -1,4 +1,4 @@
 // One finish of a job: the least time that equals its demand, by iteration.
 pub mod capacity;
-mod demand;
+pub mod demand;
 pub mod finish;

@@ -3,7 +3,8 @@ use mathlib.Core.Path.{_≡_, refl, sym, _∙_, ap, ap₂, subst}
 use mathlib.Core.Bool.{Bool, true, not, _&&_, false≢true}
 use mathlib.Core.Logic.{_≢_}
 use mathlib.Core.List.{List}
-use Prim.Native.Nat.{ℕ, zero, suc, _+_, _-_, _*_, _≤_, _<_}
+use Prim.Native.Nat.{ℕ, zero, suc, _+_, _-_, _*_, _^_, _≤_, _<_}
+use native.Mathlib.Nat.{mul-le-mul}
 use native.Mathlib.Numerals.{add-one}
 use native.Mathlib.Decide.{ℕ-discrete}
 use native.Mathlib.Omega.{arith}
@@ -14,17 +15,20 @@ use Rattle.sets.proofs.Members.{has-none}
 use Rattle.records.specs.Limits.{mostJobs}
 use Rattle.records.specs.Jobs.{jobAt}
 use Rattle.records.specs.declared.job.Job.{Job}
-use Rattle.response.specs.Demand.{interference, neighbours, otherQuanta, layerShare, demand, finish, mostInstances, firstBound, withNeighbours, only, secondBound}
+use Rattle.response.specs.Demand.{ceilDiv, interference, neighbours, otherQuanta, layerShare, demand, finish, mostInstances, firstBound, withNeighbours, only, secondBound}
 use Rattle.response.specs.declared.parts.Parts.{Parts}
 use Rattle.response.specs.Breakdown.{ownWork, reaching, reachingFinish, partsAt, firstParts, secondParts}
 use Rattle.response.proofs.Runs.{plus-from, plus-some}
 use Rattle.response.proofs.Breakdown.{bound-reached, bound-end, above-within, neighbours-within}
 use Rattle.finishes.specs.Finishes.{utilisationsOf}
-use Rattle.runs.specs.Runs.{ownDemand}
 use Rattle.runs.proofs.OneRun.{MayStart, starts-at-zero, starts-at-finish, foundFrom, finish-found}
 use Rattle.search.proofs.Deciding.{neighbours-set}
-use Rattle.parts.specs.declared.End.{End}
-use Rattle.parts.specs.Endings.{endBy, endOf}
+use Rattle.parts.specs.declared.Reaching.{Reaching}
+use Rattle.parts.specs.Reaching.{reachingBy, reachingOf}
+
+-- So many instances of a 16-bit number fit.
+pub instances-fit : (most count x : ℕ) → count ≤ most → x < 2 ^ 16 → count * x ≤ most * 65535
+instances-fit most count x hn hx = mul-le-mul {n₂ = most} {m₂ = 65535} hn (omega arith)
 
 -- ---- one instance
 
@@ -32,12 +36,12 @@ module _ (found : ℕ → ℕ → ℕ) (delay period bound : ℕ) where
   abbrev Hit : ℕ → ℕ → Type 0
   Hit j before = found j before + delay ≡ bound + j * period
 
-  end-hit : (n j before : ℕ) → Hit j before → endBy found delay period bound (suc n) j before ≡ record { instance = j; finish = found j before }
-  unfolding endBy
+  end-hit : (n j before : ℕ) → Hit j before → reachingBy found delay period bound (suc n) j before ≡ record { instance = j; finish = found j before }
+  unfolding reachingBy
   end-hit n j before e = rw (eq-eqb (found j before + delay) (bound + j * period) e)
 
-  end-miss : (n j before : ℕ) → (Hit j before → ⊥) → endBy found delay period bound (suc n) j before ≡ endBy found delay period bound n (suc j) (found j before)
-  unfolding endBy
+  end-miss : (n j before : ℕ) → (Hit j before → ⊥) → reachingBy found delay period bound (suc n) j before ≡ reachingBy found delay period bound n (suc j) (found j before)
+  unfolding reachingBy
   end-miss n j before e = rw (ne-eqb (found j before + delay) (bound + j * period) e)
 
   -- The loop of the code, over n instances.
@@ -45,14 +49,14 @@ module _ (found : ℕ → ℕ → ℕ) (delay period bound : ℕ) where
     left : n - j ≡ suc (n - suc j)
     left = omega arith
 
-    pub turn-hit : Hit j before → endBy found delay period bound (n - j) j before ≡ record { instance = j; finish = found j before }
+    pub turn-hit : Hit j before → reachingBy found delay period bound (n - j) j before ≡ record { instance = j; finish = found j before }
     turn-hit e = rw left (end-hit (n - suc j) j before e)
 
-    pub turn-miss : (Hit j before → ⊥) → endBy found delay period bound (n - j) j before ≡ endBy found delay period bound (n - (j + 1)) (j + 1) (found j before)
+    pub turn-miss : (Hit j before → ⊥) → reachingBy found delay period bound (n - j) j before ≡ reachingBy found delay period bound (n - (j + 1)) (j + 1) (found j before)
     turn-miss e = rw (add-one j, left) (end-miss (n - suc j) j before e)
 
-  pub turn-end : (j before : ℕ) → endBy found delay period bound 0 j before ≡ record { instance = j; finish = 0 }
-  unfolding endBy
+  pub turn-end : (j before : ℕ) → reachingBy found delay period bound 0 j before ≡ record { instance = j; finish = 0 }
+  unfolding reachingBy
   turn-end j before = refl
 
 -- ---- the instance that reaches one of the two bounds
@@ -64,7 +68,7 @@ module _ (jobs : List Job) (q : List ℕ) (s a : Set) (k : ℕ) where
   abbrev here : ℕ
   here = reaching jobs q s a k
 
-  abbrev end : End
+  abbrev end : Reaching
   end = record { instance = here; finish = reachingFinish jobs q s a k }
 
   module _ (b : 0 < firstBound jobs q s a k) where
@@ -77,7 +81,7 @@ module _ (jobs : List Job) (q : List ℕ) (s a : Set) (k : ℕ) where
 
     -- It is one of n instances from j on: then the search finds it, and its finish.
     end-found : (n j before : ℕ) → MayStart jobs q s a k j before → j ≤ here → here < j + n
-        → endBy (foundFrom jobs q s a k) (job .delay) (job .period) (firstBound jobs q s a k) n j before ≡ end
+        → reachingBy (foundFrom jobs q s a k) (job .delay) (job .period) (firstBound jobs q s a k) n j before ≡ end
     end-found zero j before good h l = absurd (omega arith)
     end-found (suc n) j before good h l =
         let f = foundFrom jobs q s a k in
@@ -93,12 +97,12 @@ module _ (jobs : List Job) (q : List ℕ) (s a : Set) (k : ℕ) where
         ]
 
   -- What the code finds, from the utilisations of a table, a set above and a sum of other quanta.
-  pub end-reached : (utilisations : List ℕ) (rest : Set) (others bound : ℕ) → utilisations ≡ utilisationsOf jobs → rest ≡ a → others ≡ otherQuanta (length jobs) q s k
+  pub found-reaching : (utilisations : List ℕ) (rest : Set) (others bound : ℕ) → utilisations ≡ utilisationsOf jobs → rest ≡ a → others ≡ otherQuanta (length jobs) q s k
       → 0 < bound → bound ≡ firstBound jobs q s a k
-      → endOf (record { jobs = jobs; utilisations = utilisations }) rest (getD q k 0) others job bound ≡ end
-  end-reached utilisations rest others bound u v o p e =
+      → reachingOf (record { jobs = jobs; utilisations = utilisations }) rest (getD q k 0) others job bound ≡ end
+  found-reaching utilisations rest others bound u v o p e =
       let b : 0 < firstBound jobs q s a k = omega arith in
-      let search : List ℕ → Set → ℕ → ℕ → End = λ x r y z. endOf (record { jobs = jobs; utilisations = x }) r (getD q k 0) y job z in
+      let search : List ℕ → Set → ℕ → ℕ → Reaching = λ x r y z. reachingOf (record { jobs = jobs; utilisations = x }) r (getD q k 0) y job z in
       ap₂ (λ (x : List ℕ) (r : Set). search x r others bound) u v
       ∙ ap₂ (search (utilisationsOf jobs) a) o e
       ∙ end-found b mostInstances 0 0 (starts-at-zero jobs q s a k) (omega arith) (omega (arith, bound-reached jobs q s a k b .within))
@@ -125,25 +129,21 @@ module _ (jobs : List Job) (q : List ℕ) (s a : Set) (k : ℕ) (instance last :
   abbrev entry : Job
   entry = jobAt jobs k
 
-  -- The share is what the own demand has beside the own work.
   pub first-found : 0 < firstBound jobs q s a k → (record { instance = instance; finish = last }) ≡ end jobs q s a k
-      → let share = ownDemand (getD q k 0) (otherQuanta (length jobs) q s k) (ownWork entry instance) - ownWork entry instance in
+      → let share = ceilDiv (ownWork entry instance) (getD q k 0) * otherQuanta (length jobs) q s k in
       Found instance share (interference jobs a last) last (partsAt entry instance 1 share (interference jobs a last)) (firstParts jobs q s a k)
-  unfolding firstParts ownDemand layerShare demand
+  unfolding firstParts layerShare demand
   first-found b e =
-      let i : instance ≡ reaching jobs q s a k = ap (λ (x : End). x .instance) e in
-      let l : last ≡ reachingFinish jobs q s a k = ap (λ (x : End). x .finish) e in
-      let w = bound-end jobs q s a k b in
+      let i : instance ≡ reaching jobs q s a k = ap (λ (x : Reaching). x .instance) e in
+      let l : last ≡ reachingFinish jobs q s a k = ap (λ (x : Reaching). x .finish) e in
       let own = ownWork entry instance in
-      let share : ownDemand (getD q k 0) (otherQuanta (length jobs) q s k) own - own ≡ layerShare (length jobs) q s k own = omega arith in
       let total : own + layerShare (length jobs) q s k own + interference jobs a last ≡ last =
-      ap₂ (λ (j t : ℕ). ownWork entry j + layerShare (length jobs) q s k (ownWork entry j) + interference jobs a t) i l ∙ w .0 ∙ sym l in
+      ap₂ (λ (j t : ℕ). ownWork entry j + layerShare (length jobs) q s k (ownWork entry j) + interference jobs a t) i l ∙ bound-end jobs q s a k b .0 ∙ sym l in
       record {
         within = omega (arith, i, bound-reached jobs q s a k b .within);
-        share = omega (arith, share, total);
+        share = omega (arith, total);
         above = omega (arith, total);
-        same = ap (λ (x : ℕ). partsAt entry instance 1 x (interference jobs a last)) share
-            ∙ ap₂ (λ (j t : ℕ). partsAt entry j 1 (layerShare (length jobs) q s k (ownWork entry j)) (interference jobs a t)) i l;
+        same = ap₂ (λ (j t : ℕ). partsAt entry j 1 (layerShare (length jobs) q s k (ownWork entry j)) (interference jobs a t)) i l;
       }
 
   pub second-found : 0 < secondBound jobs q s a k → (record { instance = instance; finish = last }) ≡ end jobs q (only k) (withNeighbours s a k) k
@@ -152,8 +152,8 @@ module _ (jobs : List Job) (q : List ℕ) (s a : Set) (k : ℕ) (instance last :
   unfolding secondParts demand
   second-found b e =
       let all = withNeighbours s a k in
-      let i : instance ≡ reaching jobs q (only k) all k = ap (λ (x : End). x .instance) e in
-      let l : last ≡ reachingFinish jobs q (only k) all k = ap (λ (x : End). x .finish) e in
+      let i : instance ≡ reaching jobs q (only k) all k = ap (λ (x : Reaching). x .instance) e in
+      let l : last ≡ reachingFinish jobs q (only k) all k = ap (λ (x : Reaching). x .finish) e in
       let w = bound-end jobs q (only k) all k b in
       let total : interference jobs all last ≤ last = rw l (omega (arith, w .0)) in
       record {

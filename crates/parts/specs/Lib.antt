@@ -1,2 +1,2 @@
-pub mod Endings
+pub mod Reaching
 pub mod Breakdowns

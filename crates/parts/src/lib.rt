@@ -1,17 +1,19 @@
 // The parts of a bound: where its ticks go (02, E6). The instance that decides is sought again from the bound that was found, so that the
 // search for bounds carries no instance.
 ghost use mathlib.Core.Path.{_≡_};
-ghost use Prim.Native.Nat.{_^_, _<_, _≤_};
+ghost use Prim.Native.Nat.{_*_, _^_, _<_, _≤_};
 ghost use mathlib.Core.Bool.{cond};
 ghost use lib.Dec.{eqb};
 ghost use Rattle.sets.specs.Sets.{has, join};
 ghost use Rattle.records.specs.Limits.{mostJobs};
-ghost use Rattle.response.specs.Demand.{mostInstances, firstBound, secondBound};
+ghost use Rattle.response.specs.Demand.{ceilDiv, mostInstances, firstBound, secondBound};
 ghost use Rattle.response.specs.Breakdown.{partsAt, firstParts, secondParts, parts};
 ghost use Rattle.finishes.specs.Finishes.{utilisationsOf, longestTime};
-ghost use Rattle.runs.specs.Runs.{runBound};
-ghost use Rattle.parts.specs.Endings.{endOf};
+ghost use Rattle.runs.specs.Runs.{finishBy, runBound};
+ghost use Rattle.parts.specs.Reaching.{reachingOf};
 use finishes::capacity;
+use finishes::capacity::Capacity;
+use finishes::demand;
 use finishes::finish;
 use records::job::Job;
 use response::parts::Parts;
@@ -22,14 +24,49 @@ use search::workload;
 pub mod table;
 
 // An instance and its finish.
-pub struct End {
+pub struct Reaching {
     pub instance: u32,
     pub finish: u32,
 }
 
-// The first instance of a job whose finish plus the delay is the bound after its release, beside a sum of other quanta and below a set;
-// each finish is sought from the finish of the instance before.
-fn ending(
+// What the layer adds for so much own work: its cycles, rounded up, times the other quanta; nothing without a quantum.
+fn layer_share(work: u32, quantum: u8, others: u16) -> u64
+    ensures { λ r. ⌜ (r ≡ ceilDiv work quantum * others) × (r < 2 ^ 48) ⌝ }
+{
+    if quantum == 0 {
+        return 0;
+    }
+    let cycles = (work as u64 + (quantum as u64 - 1)) / (quantum as u64);
+    cycles * (others as u64)
+}
+
+// The finish of an instance of a job, beside a sum of other quanta and below a set that leaves such a capacity, from a time on.
+fn finish_at(
+    jobs: [Job; Job::MOST],
+    utilisations: [u32; Job::MOST],
+    above: u8,
+    capacity: Capacity,
+    quantum: u8,
+    others: u16,
+    job: Job,
+    instance: u32,
+    before: u32,
+) -> u32
+    requires { ⌜ instance < mostInstances ⌝ }
+    ensures { λ r. ⌜ (r ≡ finishBy (record { jobs = jobs; utilisations = utilisations }) (has above) (capacity .spare) (capacity .carry) quantum others (job .cost) (job .period) (job .deadline) (job .delay) instance before) × (r ≤ longestTime) ⌝ }
+{
+    let work = (instance + 1) * (job.cost as u32);
+    let own = work as u64 + layer_share(work, quantum, others);
+    let latest = instance * (job.period as u32) + job.deadline as u32;
+    let limit = runs::less(latest, job.delay as u32);
+    let spare = capacity.spare;
+    let carry = capacity.carry;
+    finish::time_for(jobs, utilisations, above, spare, carry, own, limit, before)
+}
+
+// The first instance of a job whose response is the bound, beside a sum of other quanta and below a set, and its finish; each finish is
+// sought from the finish of the instance before.
+fn find_reaching(
     jobs: [Job; Job::MOST],
     utilisations: [u32; Job::MOST],
     above: u8,
@@ -37,40 +74,32 @@ fn ending(
     others: u16,
     job: Job,
     bound: u16,
-) -> End
-    ensures { λ r. ⌜ (r ≡ endOf (record { jobs = jobs; utilisations = utilisations }) (has above) quantum others job bound) × (r .instance ≤ mostInstances) × (r .finish ≤ longestTime) ⌝ }
+) -> Reaching
+    ensures { λ r. ⌜ (r ≡ reachingOf (record { jobs = jobs; utilisations = utilisations }) (has above) quantum others job bound) × (r .instance ≤ mostInstances) × (r .finish ≤ longestTime) ⌝ }
 {
-    let cost = job.cost;
-    let period = job.period as u32;
-    let deadline = job.deadline as u32;
-    let delay = job.delay as u32;
     let capacity = capacity::capacity_of(jobs, utilisations, above);
     let mut before: u32 = 0;
     let mut instance: u32 = 0;
     while instance < INSTANCES {
-        let release = instance * period;
-        let own = runs::own_demand(cost, (instance + 1) as u8, quantum, others);
-        let limit = runs::less(release + deadline, delay);
-        let finish = finish::time_for(
+        let finish = finish_at(
             jobs,
             utilisations,
             above,
-            capacity.spare,
-            capacity.carry,
-            own,
-            limit,
+            capacity,
+            quantum,
+            others,
+            job,
+            instance,
             before,
         );
-        if finish + delay == bound as u32 + release {
-            return End { instance, finish };
+        if finish + job.delay as u32 == bound as u32 + instance * (job.period as u32) {
+            return Reaching { instance, finish };
         }
         before = finish;
         instance += 1;
     }
-    End {
-        instance,
-        finish: 0,
-    }
+    let finish: u32 = 0;
+    Reaching { instance, finish }
 }
 
 // The parts at an instance of a job, with what its layer and the jobs above add.
@@ -93,7 +122,7 @@ fn parts_at(job: Job, instance: u32, which: u8, share: u64, above: u64) -> Parts
     }
 }
 
-// The parts of the first bound. The layer's share is what the own demand has beside the own work.
+// The parts of the first bound.
 fn first_parts(
     jobs: [Job; Job::MOST],
     utilisations: [u32; Job::MOST],
@@ -109,12 +138,11 @@ fn first_parts(
     let entry = jobs[job];
     let quantum = quanta[job];
     let others = quanta::other_quanta(quanta, layer, job);
-    let end = ending(jobs, utilisations, above, quantum, others, entry, bound);
-    let count = end.instance + 1;
-    let own = (count as u64) * (entry.cost as u64);
-    let share = runs::own_demand(entry.cost, count as u8, quantum, others) - own;
-    let higher = finish::work_by(jobs, above, end.finish);
-    parts_at(entry, end.instance, 1, share, higher)
+    let found = find_reaching(jobs, utilisations, above, quantum, others, entry, bound);
+    let work = (found.instance + 1) * (entry.cost as u32);
+    let share = layer_share(work, quantum, others);
+    let from_above = demand::work_by(jobs, above, found.finish);
+    parts_at(entry, found.instance, 1, share, from_above)
 }
 
 // The parts of the second bound.
@@ -133,10 +161,10 @@ fn second_parts(
     let entry = jobs[job];
     let neighbours = sets::remove(layer, job);
     let all = sets::join(above, neighbours);
-    let end = ending(jobs, utilisations, all, quanta[job], 0, entry, bound);
-    let beside = finish::work_by(jobs, neighbours, end.finish);
-    let over = finish::work_by(jobs, above, end.finish);
-    parts_at(entry, end.instance, 2, beside, over)
+    let found = find_reaching(jobs, utilisations, all, quanta[job], 0, entry, bound);
+    let share = demand::work_by(jobs, neighbours, found.finish);
+    let above_alone = demand::work_by(jobs, above, found.finish);
+    parts_at(entry, found.instance, 2, share, above_alone)
 }
 
 // The second bound of a job, from its first, which it is without neighbours.

@@ -37,11 +37,12 @@ fn cycles_of(work: u32, quantum: u8) -> u32
     (work + (quantum as u32 - 1)) / (quantum as u32)
 }
 
-// The own demand of so many instances of a job: their work, and the layer's share for it. No entry; it judges nothing.
-pub fn own_demand(cost: u16, count: u8, quantum: u8, others: u16) -> u64
+// The own demand of so many instances of a job: their work, and the layer's share for it.
+fn own_demand(cost: u32, count: u32, quantum: u8, others: u16) -> u64
+    requires { ⌜ (cost < 2 ^ 16) × (count ≤ 64) ⌝ }
     ensures { λ r. ⌜ r ≡ ownDemand quantum others (count * cost) ⌝ }
 {
-    let work = (count as u32) * (cost as u32);
+    let work = count * cost;
     let cycles = cycles_of(work, quantum);
     work as u64 + (cycles as u64) * (others as u64)
 }
@@ -70,7 +71,7 @@ fn largest_response(
 ) -> u16
     ensures { λ r. ⌜ r ≡ largestBy (record { jobs = jobs; utilisations = utilisations }) (has above) spare carry quantum others job ⌝ }
 {
-    let cost = job.cost;
+    let cost = job.cost as u32;
     let period = job.period as u32;
     let deadline = job.deadline as u32;
     let delay = job.delay as u32;
@@ -79,7 +80,7 @@ fn largest_response(
     let mut instance: u32 = 0;
     while instance < INSTANCES {
         let release = instance * period;
-        let own = own_demand(cost, (instance + 1) as u8, quantum, others);
+        let own = own_demand(cost, instance + 1, quantum, others);
         let limit = less(release + deadline, delay);
         let finish = finish::time_for(jobs, utilisations, above, spare, carry, own, limit, before);
         if finish == 0 {

@@ -32,6 +32,9 @@ Inv-loop jobs utilisations above spare carry quantum others cost period deadline
 abbrev μ-loop : tie.MeasureT-loop
 μ-loop jobs utilisations above spare carry quantum others cost period deadline delay largest₀ before₀ instance₀ largest before instance = mostInstances - instance
 
+cast-cost : tie.Need-cast-cost Inv-loop μ-loop
+cast-cost c = search needs
+
 cast-period : tie.Need-cast-period Inv-loop μ-loop
 cast-period c = search needs
 
@@ -49,14 +52,14 @@ release-fits : (instance period : ℕ) → instance < mostInstances → period <
 release-fits instance period hi hp = mul-le-mul {n₂ = 63} {m₂ = 65535} (omega arith) (omega arith)
 
 -- In a turn: the release of the instance.
-release : (c : tie.In-loop Inv-loop μ-loop) → c .before .loop .instance * c .before .before .before .before .before .args .job .period ≤ 63 * 65535
+release : (c : tie.In-loop Inv-loop μ-loop) → c .before .loop .instance * c .before .before .before .before .before .before .args .job .period ≤ 63 * 65535
 release c =
-    let a = c .before .before .before .before .before .args in
+    let a = c .before .before .before .before .before .before .args in
     let h : Fits w16 (a .job .period) = search needs in
     release-fits (c .before .loop .instance) (a .job .period) (omega (arith, c .loop-test .taken)) (omega arith)
 
-deadline-fits : (c : tie.In-loop Inv-loop μ-loop) → c .before .before .before .before .before .args .job .deadline < 2 ^ 16
-deadline-fits c = let h : Fits w16 (c .before .before .before .before .before .args .job .deadline) = search needs in omega arith
+deadline-fits : (c : tie.In-loop Inv-loop μ-loop) → c .before .before .before .before .before .before .args .job .deadline < 2 ^ 16
+deadline-fits c = let h : Fits w16 (c .before .before .before .before .before .before .args .job .deadline) = search needs in omega arith
 
 mul-release : tie.Need-mul-release Inv-loop μ-loop
 mul-release c =
@@ -64,9 +67,6 @@ mul-release c =
 
 add-own-demand : tie.Need-add-own-demand Inv-loop μ-loop
 add-own-demand c = search needs
-
-cast-own-demand : tie.Need-cast-own-demand Inv-loop μ-loop
-cast-own-demand c = search needs
 
 own-demand-requires : tie.Need-own-demand-requires Inv-loop μ-loop
 own-demand-requires c κs = search needs
@@ -86,7 +86,7 @@ module _ (c : tie.After-time-for Inv-loop μ-loop) where
   turn = c .before .before .before
 
   abbrev job : Job
-  job = turn .before .before .before .before .before .args .job
+  job = turn .before .before .before .before .before .before .args .job
 
   abbrev instance : ℕ
   instance = turn .before .loop .instance
@@ -96,7 +96,7 @@ module _ (c : tie.After-time-for Inv-loop μ-loop) where
 
   abbrev finishes : ℕ → ℕ → ℕ
   finishes =
-      let a = turn .before .before .before .before .before .args in
+      let a = turn .before .before .before .before .before .before .args in
       found (a .jobs) (a .utilisations) (a .above) (a .spare) (a .carry) (a .quantum) (a .others) (job .cost) (job .period) (job .deadline) (job .delay)
 
   one-more : instance + 1 ≡ suc instance
@@ -105,7 +105,7 @@ module _ (c : tie.After-time-for Inv-loop μ-loop) where
   finish : c .time-for .result ≡ finishes instance before
   unfolding finishBy
   finish =
-      let a = turn .before .before .before .before .before .args in
+      let a = turn .before .before .before .before .before .before .args in
       let own : c .before .before .own-demand .result ≡ ownDemand (a .quantum) (a .others) (suc instance * job .cost) =
       c .before .before .own-demand .ensures ∙ ap (λ (n : ℕ). ownDemand (a .quantum) (a .others) (n * job .cost)) one-more in
       time-answered (record { jobs = a .jobs; utilisations = a .utilisations }) (has (a .above)) (a .spare) (a .carry) before
@@ -198,7 +198,7 @@ returns-3 : tie.Need-returns-3 Inv-loop μ-loop
 returns-3 c =
     let l = c .before .loop in
     let e : mostInstances - l .instance ≡ 0 = omega (arith, c .loop-test .left) in
-    let a = c .before .before .before .before .before .args in
+    let a = c .before .before .before .before .before .before .args in
     let f = found (a .jobs) (a .utilisations) (a .above) (a .spare) (a .carry) (a .quantum) (a .others) (a .job .cost) (a .job .period) (a .job .deadline) (a .job .delay) in
     sym (l .inv .3 ∙ ap (λ (n : ℕ). runBy f (a .job .delay) (a .job .period) n (l .instance) (l .before) (l .largest)) e ∙ turn-out f (a .job .delay) (a .job .period) (l .instance) (l .before) (l .largest))
 
@@ -208,13 +208,13 @@ largest-response-spec =
     (tie.spec
     Inv-loop
     μ-loop
+    cast-cost
     cast-period
     cast-deadline
     cast-delay
     loop-holds
     mul-release
     add-own-demand
-    cast-own-demand
     own-demand-requires
     add-less
     less-requires

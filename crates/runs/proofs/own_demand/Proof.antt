@@ -3,37 +3,34 @@ use mathlib.Core.Path.{ap}
 use native.Mathlib.Nat.{mul-le-mul}
 use native.Mathlib.Omega.{arith}
 use mir.Val.{Fits}
-use mir.Syntax.{w8, w16}
+use mir.Syntax.{w16}
 use Rattle.runs.specs.Runs.{ownDemand}
 use borrow.Author.Needs.{needs}
 use Rattle.runs.proofs.own_demand.Statement.{statement}
 use Rattle.runs.proofs.own_demand.Tie as tie
 
--- The work of so many instances, and its own demand, fit.
-work-fits : (cost count : ℕ) → cost < 2 ^ 16 → count < 2 ^ 8 → count * cost < 2 ^ 24
-work-fits cost count hc hn = let m : count * cost ≤ 255 * 65535 = mul-le-mul {n₂ = 255} {m₂ = 65535} (omega arith) (omega arith) in omega arith
+-- The work of at most 64 instances, and its own demand, fit.
+work-fits : (cost count : ℕ) → cost < 2 ^ 16 → count ≤ 64 → count * cost < 2 ^ 22
+work-fits cost count hc hn = let m : count * cost ≤ 64 * 65535 = mul-le-mul {n₂ = 64} {m₂ = 65535} hn (omega arith) in omega arith
 
-demand-fits : (work cycles others : ℕ) → work < 2 ^ 24 → cycles < 2 ^ 24 → others < 2 ^ 16 → work + cycles * others < 2 ^ 41
+demand-fits : (work cycles others : ℕ) → work < 2 ^ 22 → cycles < 2 ^ 22 → others < 2 ^ 16 → work + cycles * others < 2 ^ 39
 demand-fits work cycles others hw hy ho =
-    let m : cycles * others ≤ 16777215 * 65535 = mul-le-mul {n₂ = 16777215} {m₂ = 65535} (omega arith) (omega arith) in omega arith
+    let m : cycles * others ≤ 4194303 * 65535 = mul-le-mul {n₂ = 4194303} {m₂ = 65535} (omega arith) (omega arith) in omega arith
 
-work : (s : tie.Start) → s .args .count * s .args .cost < 2 ^ 24
-work s =
-    let c : Fits w16 (s .args .cost) = search needs in
-    let n : Fits w8 (s .args .count) = search needs in
-    work-fits (s .args .cost) (s .args .count) (omega arith) (omega arith)
+work : (s : tie.Start) → s .args .count * s .args .cost < 2 ^ 22
+work s = work-fits (s .args .cost) (s .args .count) (s .pre .0) (s .pre .1)
 
-fits : (c : tie.After-cycles-of) → c .before .args .count * c .before .args .cost + c .cycles-of .result * c .before .args .others < 2 ^ 41
+fits : (c : tie.After-cycles-of) → c .before .args .count * c .before .args .cost + c .cycles-of .result * c .before .args .others < 2 ^ 39
 fits c =
     let s = c .before in
     let o : Fits w16 (s .args .others) = search needs in
-    demand-fits (s .args .count * s .args .cost) (c .cycles-of .result) (s .args .others) (work s) (omega (arith, c .cycles-of .ensures .1, work s)) (omega arith)
+    demand-fits (s .args .count * s .args .cost) (c .cycles-of .result) (s .args .others) (work s) (omega (arith, c .cycles-of .ensures .1, work s, s .pre .0)) (omega arith)
 
 mul-work : tie.Need-mul-work
 mul-work c = omega (arith, work c)
 
 cycles-of-requires : tie.Need-cycles-of-requires
-cycles-of-requires c κs = omega (arith, work c)
+cycles-of-requires c κs = omega (arith, work c, c .pre .0)
 
 cast-result : tie.Need-cast-result
 cast-result c = omega (arith, work (c .before))
