@@ -1,33 +1,23 @@
 // The parts of a bound: where its ticks go (02, E6). The instance that decides is sought again from the bound that was found, so that the
-// search for bounds carries no instance.
+// search for bounds carries no instance; its finish follows from the bound.
 ghost use mathlib.Core.Path.{_≡_};
-ghost use Prim.Native.Nat.{_*_, _^_, _<_, _≤_};
 ghost use mathlib.Core.Bool.{cond};
+ghost use Prim.Native.Nat.{_+_, _-_, _*_, _^_, _<_, _≤_};
 ghost use lib.Dec.{eqb};
-ghost use Rattle.sets.specs.Sets.{has, join};
+ghost use Rattle.sets.specs.Sets.{has, single, join};
 ghost use Rattle.records.specs.Limits.{mostJobs};
 ghost use Rattle.response.specs.Demand.{ceilDiv, mostInstances, firstBound, secondBound};
 ghost use Rattle.response.specs.Breakdown.{partsAt, firstParts, secondParts, parts};
-ghost use Rattle.finishes.specs.Finishes.{utilisationsOf, longestTime};
-ghost use Rattle.runs.specs.Runs.{finishBy, runBound};
-ghost use Rattle.parts.specs.Reaching.{reachingOf};
-use finishes::capacity;
-use finishes::capacity::Capacity;
+ghost use Rattle.finishes.specs.Finishes.{longestTime};
+ghost use Rattle.search.specs.Search.{plainWorkload, oneBound};
 use finishes::demand;
-use finishes::finish;
 use records::job::Job;
 use response::parts::Parts;
-use runs::INSTANCES;
 use search::quanta;
 use search::workload;
+use search::workload::Workload;
 
 pub mod table;
-
-// An instance and its finish.
-pub struct Reaching {
-    pub instance: u32,
-    pub finish: u32,
-}
 
 // What the layer adds for so much own work: its cycles, rounded up, times the other quanta; nothing without a quantum.
 fn layer_share(work: u32, quantum: u8, others: u16) -> u64
@@ -40,74 +30,20 @@ fn layer_share(work: u32, quantum: u8, others: u16) -> u64
     cycles * (others as u64)
 }
 
-// The finish of an instance of a job, beside a sum of other quanta and below a set that leaves such a capacity, from a time on.
-fn finish_at(
-    jobs: [Job; Job::MOST],
-    utilisations: [u32; Job::MOST],
-    above: u8,
-    capacity: Capacity,
-    quantum: u8,
-    others: u16,
-    job: Job,
-    instance: u32,
-    before: u32,
-) -> u32
-    requires { ⌜ instance < mostInstances ⌝ }
-    ensures { λ r. ⌜ (r ≡ finishBy (record { jobs = jobs; utilisations = utilisations }) (has above) (capacity .spare) (capacity .carry) quantum others (job .cost) (job .period) (job .deadline) (job .delay) instance before) × (r ≤ longestTime) ⌝ }
+// The finish of the instance, so many from the first, whose response is the bound.
+fn finish_of(job: Job, count: u32, bound: u16) -> u32
+    requires { ⌜ (0 < count) × (count ≤ mostInstances) × (job .delay ≤ bound + (count - 1) * job .period) ⌝ }
+    ensures { λ r. ⌜ (r ≡ bound + (count - 1) * job .period - job .delay) × (r ≤ longestTime) ⌝ }
 {
-    let work = (instance + 1) * (job.cost as u32);
-    let own = work as u64 + layer_share(work, quantum, others);
-    let latest = instance * (job.period as u32) + job.deadline as u32;
-    let limit = runs::less(latest, job.delay as u32);
-    let spare = capacity.spare;
-    let carry = capacity.carry;
-    finish::time_for(jobs, utilisations, above, spare, carry, own, limit, before)
+    bound as u32 + (count - 1) * (job.period as u32) - job.delay as u32
 }
 
-// The first instance of a job whose response is the bound, beside a sum of other quanta and below a set, and its finish; each finish is
-// sought from the finish of the instance before.
-fn find_reaching(
-    jobs: [Job; Job::MOST],
-    utilisations: [u32; Job::MOST],
-    above: u8,
-    quantum: u8,
-    others: u16,
-    job: Job,
-    bound: u16,
-) -> Reaching
-    ensures { λ r. ⌜ (r ≡ reachingOf (record { jobs = jobs; utilisations = utilisations }) (has above) quantum others job bound) × (r .instance ≤ mostInstances) × (r .finish ≤ longestTime) ⌝ }
+// The parts at the instance of a job that is so many from the first, with what its layer and the jobs above add.
+fn parts_at(job: Job, count: u32, which: u8, share: u64, above: u64) -> Parts
+    requires { ⌜ (0 < count) × (count ≤ mostInstances) × (share < 2 ^ 32) × (above < 2 ^ 32) ⌝ }
+    ensures { λ r. ⌜ r ≡ partsAt job (count - 1) which share above ⌝ }
 {
-    let capacity = capacity::capacity_of(jobs, utilisations, above);
-    let mut before: u32 = 0;
-    let mut instance: u32 = 0;
-    while instance < INSTANCES {
-        let finish = finish_at(
-            jobs,
-            utilisations,
-            above,
-            capacity,
-            quantum,
-            others,
-            job,
-            instance,
-            before,
-        );
-        if finish + job.delay as u32 == bound as u32 + instance * (job.period as u32) {
-            return Reaching { instance, finish };
-        }
-        before = finish;
-        instance += 1;
-    }
-    let finish: u32 = 0;
-    Reaching { instance, finish }
-}
-
-// The parts at an instance of a job, with what its layer and the jobs above add.
-fn parts_at(job: Job, instance: u32, which: u8, share: u64, above: u64) -> Parts
-    requires { ⌜ (instance < mostInstances) × (share < 2 ^ 32) × (above < 2 ^ 32) ⌝ }
-    ensures { λ r. ⌜ r ≡ partsAt job instance which share above ⌝ }
-{
-    let count = instance + 1;
+    let instance = count - 1;
     let own = count * (job.cost as u32);
     let taken = instance * (job.period as u32);
     let delay = job.delay as u32;
@@ -124,92 +60,89 @@ fn parts_at(job: Job, instance: u32, which: u8, share: u64, above: u64) -> Parts
 
 // The parts of the first bound.
 fn first_parts(
-    jobs: [Job; Job::MOST],
-    utilisations: [u32; Job::MOST],
+    workload: Workload,
     quanta: [u8; Job::MOST],
     layer: u8,
     above: u8,
     job: usize,
     bound: u16,
 ) -> Parts
-    requires { ⌜ (utilisations ≡ utilisationsOf jobs) × (job < mostJobs) × (0 < bound) × (bound ≡ firstBound jobs quanta (has layer) (has above) job) ⌝ }
-    ensures { λ r. ⌜ r ≡ firstParts jobs quanta (has layer) (has above) job ⌝ }
+    requires { ⌜ (workload ≡ plainWorkload (workload .jobs)) × (job < mostJobs) × (0 < bound) × (bound ≡ firstBound (workload .jobs) quanta (has layer) (has above) job) ⌝ }
+    ensures { λ r. ⌜ r ≡ firstParts (workload .jobs) quanta (has layer) (has above) job ⌝ }
 {
-    let entry = jobs[job];
+    let entry = workload.jobs[job];
     let quantum = quanta[job];
     let others = quanta::other_quanta(quanta, layer, job);
-    let found = find_reaching(jobs, utilisations, above, quantum, others, entry, bound);
-    let work = (found.instance + 1) * (entry.cost as u32);
+    let count = workload.run(quanta, layer, above, job, bound) as u32;
+    let finish = finish_of(entry, count, bound);
+    let work = count * (entry.cost as u32);
     let share = layer_share(work, quantum, others);
-    let from_above = demand::work_by(jobs, above, found.finish);
-    parts_at(entry, found.instance, 1, share, from_above)
+    let from_above = demand::work_by(workload.jobs, above, finish);
+    parts_at(entry, count, 1, share, from_above)
 }
 
-// The parts of the second bound.
+// The parts of the second bound, which is the first of the job alone with its neighbours above too.
 fn second_parts(
-    jobs: [Job; Job::MOST],
-    utilisations: [u32; Job::MOST],
+    workload: Workload,
     quanta: [u8; Job::MOST],
     layer: u8,
     above: u8,
     job: usize,
     bound: u16,
 ) -> Parts
-    requires { ⌜ (utilisations ≡ utilisationsOf jobs) × (job < mostJobs) × (0 < bound) × (bound ≡ secondBound jobs quanta (has layer) (has above) job) ⌝ }
-    ensures { λ r. ⌜ r ≡ secondParts jobs quanta (has layer) (has above) job ⌝ }
+    requires { ⌜ (workload ≡ plainWorkload (workload .jobs)) × (job < mostJobs) × (0 < bound) × (bound ≡ secondBound (workload .jobs) quanta (has layer) (has above) job) ⌝ }
+    ensures { λ r. ⌜ r ≡ secondParts (workload .jobs) quanta (has layer) (has above) job ⌝ }
 {
-    let entry = jobs[job];
+    let entry = workload.jobs[job];
+    let alone = sets::single(job);
     let neighbours = sets::remove(layer, job);
     let all = sets::join(above, neighbours);
-    let found = find_reaching(jobs, utilisations, all, quanta[job], 0, entry, bound);
-    let share = demand::work_by(jobs, neighbours, found.finish);
-    let above_alone = demand::work_by(jobs, above, found.finish);
-    parts_at(entry, found.instance, 2, share, above_alone)
+    let count = workload.run(quanta, alone, all, job, bound) as u32;
+    let finish = finish_of(entry, count, bound);
+    let beside = demand::work_by(workload.jobs, neighbours, finish);
+    let from_above = demand::work_by(workload.jobs, above, finish);
+    parts_at(entry, count, 2, beside, from_above)
 }
 
 // The second bound of a job, from its first, which it is without neighbours.
 fn second_bound(
-    jobs: [Job; Job::MOST],
-    utilisations: [u32; Job::MOST],
+    workload: Workload,
+    quanta: [u8; Job::MOST],
     above: u8,
     neighbours: u8,
-    quantum: u8,
-    job: Job,
+    job: usize,
     first: u16,
 ) -> u16
-    ensures { λ r. ⌜ r ≡ cond (eqb neighbours 0) first (runBound (record { jobs = jobs; utilisations = utilisations }) (has (join above neighbours)) quantum 0 job) ⌝ }
+    ensures { λ r. ⌜ r ≡ cond (eqb neighbours 0) first (oneBound (record { jobs = workload .jobs; utilisations = workload .utilisations; unassignable = workload .unassignable; sought = 0 }) quanta (has (single job)) (has (join above neighbours)) job) ⌝ }
 {
     if neighbours == 0 {
         return first;
     }
+    let alone = sets::single(job);
     let all = sets::join(above, neighbours);
-    runs::run_bound(jobs, utilisations, all, quantum, 0, job)
+    workload.run(quanta, alone, all, job, 0)
 }
 
 // The parts of the bound of the job at a place, in a layer with a set above.
 pub(crate) fn parts_of(
-    jobs: [Job; Job::MOST],
-    utilisations: [u32; Job::MOST],
+    workload: Workload,
     quanta: [u8; Job::MOST],
     layer: u8,
     above: u8,
     job: usize,
 ) -> Parts
-    requires { ⌜ (utilisations ≡ utilisationsOf jobs) × (job < mostJobs) ⌝ }
-    ensures { λ r. ⌜ r ≡ parts jobs quanta (has layer) (has above) job ⌝ }
+    requires { ⌜ (workload ≡ plainWorkload (workload .jobs)) × (job < mostJobs) ⌝ }
+    ensures { λ r. ⌜ r ≡ parts (workload .jobs) quanta (has layer) (has above) job ⌝ }
 {
-    let entry = jobs[job];
-    let quantum = quanta[job];
-    let others = quanta::other_quanta(quanta, layer, job);
     let neighbours = sets::remove(layer, job);
-    let first = runs::run_bound(jobs, utilisations, above, quantum, others, entry);
-    let second = second_bound(jobs, utilisations, above, neighbours, quantum, entry, first);
+    let first = workload.run(quanta, layer, above, job, 0);
+    let second = second_bound(workload, quanta, above, neighbours, job, first);
     let bound = workload::lesser(first, second);
     if bound == 0 {
         return Parts::NONE;
     }
     if bound == first {
-        return first_parts(jobs, utilisations, quanta, layer, above, job, bound);
+        return first_parts(workload, quanta, layer, above, job, bound);
     }
-    second_parts(jobs, utilisations, quanta, layer, above, job, bound)
+    second_parts(workload, quanta, layer, above, job, bound)
 }

@@ -6,25 +6,19 @@ ghost use lib.ListN.{take};
 ghost use Rattle.records.specs.Limits.{mostJobs};
 ghost use Rattle.records.specs.Records.{table};
 ghost use Rattle.response.specs.Breakdown.{noParts};
-ghost use Rattle.finishes.specs.Finishes.{utilisationsOf};
+ghost use Rattle.search.specs.Search.{plainWorkload};
 ghost use Rattle.parts.specs.Breakdowns.{partsIn, breakdownOf};
 use configuration::setting::Setting;
-use finishes::capacity;
 use marker::levels;
 use marker::levels::Relation;
 use records::job::Job;
 use response::parts::Parts;
+use search::workload::Workload;
 
 // The parts of the bound of the job at place k of n.
-fn parts_in(
-    jobs: [Job; Job::MOST],
-    utilisations: [u32; Job::MOST],
-    settings: [Setting; Job::MOST],
-    n: usize,
-    k: usize,
-) -> Parts
-    requires { ⌜ (n ≤ mostJobs) × (k < n) × (utilisations ≡ utilisationsOf jobs) ⌝ }
-    ensures { λ r. ⌜ r ≡ partsIn (take n jobs) settings k ⌝ }
+fn parts_in(workload: Workload, settings: [Setting; Job::MOST], n: usize, k: usize) -> Parts
+    requires { ⌜ (n ≤ mostJobs) × (k < n) × (workload ≡ plainWorkload (workload .jobs)) ⌝ }
+    ensures { λ r. ⌜ r ≡ partsIn (take n (workload .jobs)) settings k ⌝ }
 {
     let setting = settings[k];
     let level = setting.level;
@@ -34,7 +28,7 @@ fn parts_in(
     let layer = levels::level_set(Relation::Same, settings, n, level);
     let above = levels::level_set(Relation::Above, settings, n, level);
     let quanta = levels::quanta_of(settings);
-    crate::parts_of(jobs, utilisations, quanta, layer, above, k)
+    crate::parts_of(workload, quanta, layer, above, k)
 }
 
 // The parts of the bounds of the first n jobs. No entry; it judges nothing: any jobs and settings have those that the definition gives.
@@ -46,11 +40,11 @@ pub fn breakdown_of(
     ensures { λ r. ⌜ r ≡ table mostJobs noParts (breakdownOf (take n jobs) (take n settings)) ⌝ }
 {
     let count = Job::at_most(n);
-    let utilisations = capacity::utilisations_of(jobs);
+    let workload = Workload::plain(jobs);
     let mut parts = [Parts::NONE; Job::MOST];
     let mut k = 0;
     while k < count {
-        parts[k] = parts_in(jobs, utilisations, settings, count, k);
+        parts[k] = parts_in(workload, settings, count, k);
         k += 1;
     }
     parts

@@ -24,11 +24,12 @@ use Rattle.response.proofs.Easier.{interference-mono, interference-spli
 
 -- ---- what a run reaches
 
--- Among the first n instances, one whose response this is; each before it has a finish and a smaller response.
+-- Among the first n instances, one whose response this is; each before it has a finish, a smaller response, and runs past its next release.
 pub record Reaches (f : ℕ → ℕ) (period n : ℕ) (r : Reached) : Type 0 where
   pub within : r .instance < n
   pub response : r .response + r .instance * period ≡ f (r .instance)
   pub first : (i : ℕ) → i < r .instance → (0 < f i) × (f i - i * period < r .response)
+  pub open-ended : (i : ℕ) → i < r .instance → suc i * period < f i
 
 -- The largest response of the first n instances, if any has one.
 record Largest (f : ℕ → ℕ) (period n : ℕ) (r : Reached) : Type 0 where
@@ -36,39 +37,43 @@ record Largest (f : ℕ → ℕ) (period n : ℕ) (r : Reached) : Type 0 where
   reaches : 0 < r .response → Reaches f period n r
 
 module _ (f : ℕ → ℕ) (period : ℕ) where
-  largest-next : (j : ℕ) (before : Reached) → f j ≢ 0 → Largest f period j before → Largest f period (suc j) (larger before (responseOf period j (f j)))
+  largest-next : (j : ℕ) (before : Reached) → f j ≢ 0 → ((i : ℕ) → i < j → suc i * period < f i) → Largest f period j before
+      → Largest f period (suc j) (larger before (responseOf period j (f j)))
   unfolding larger
-  largest-next j before z w = elim (decLe (f j - j * period) (before .response)) [
+  largest-next j before z o w = elim (decLe (f j - j * period) (before .response)) [
     | yes h ↦ rw (le-ltb (before .response) (f j - j * period) h, larger) (record {
       most = λ i l. elim (ℕ-discrete i j) [ yes e ↦ rw e (omega arith, h) | no e ↦ w .most i (omega arith) ];
-      reaches = λ p. let r = w .reaches p in record { within = omega (arith, r .within); response = r .response; first = r .first };
+      reaches = λ p. let r = w .reaches p in record { within = omega (arith, r .within); response = r .response; first = r .first; open-ended = r .open-ended };
     })
     | no h ↦ rw (lt-ltb (before .response) (f j - j * period) (omega arith), larger) (record {
       most = λ i l. elim (ℕ-discrete i j) [ yes e ↦ rw e (omega arith) | no e ↦ omega (arith, w .most i (omega arith)) ];
-      reaches = λ p. record { within = omega arith; response = omega arith; first = λ i l. omega (arith, w .most i l) };
+      reaches = λ p. record { within = omega arith; response = omega arith; first = λ i l. omega (arith, w .most i l); open-ended = o };
     })
   ]
 
-  run-reaches : (n j : ℕ) (before : Reached) → Largest f period j before → 0 < run f period n j before .response
+  run-reaches : (n j : ℕ) (before : Reached) → ((i : ℕ) → i < j → suc i * period < f i) → Largest f period j before → 0 < run f period n j before .response
       → Reaches f period (j + n) (run f period n j before)
   unfolding run
-  run-reaches zero j before w b = absurd (omega arith)
-  run-reaches (suc n) j before w b = elim (ℕ-discrete (f j) 0) [
+  run-reaches zero j before o w b = absurd (omega arith)
+  run-reaches (suc n) j before o w b = elim (ℕ-discrete (f j) 0) [
     | yes z ↦ let e : 0 < none .response = rw (run-none f period n j before z) at b in absurd (omega arith)
     | no z ↦ elim (decLe (f j) (suc j * period)) [
       | yes c ↦
-          let r = largest-next j before z w .reaches (rw (run-closed f period n j before z c) at b) in
-          rw (run-closed f period n j before z c) (record { within = omega (arith, r .within); response = r .response; first = r .first })
+          let r = largest-next j before z o w .reaches (rw (run-closed f period n j before z c) at b) in
+          rw (run-closed f period n j before z c) (record { within = omega (arith, r .within); response = r .response; first = r .first; open-ended = r .open-ended })
       | no c ↦
-          let o = run-open f period n j before z (omega arith) in
-          let r = run-reaches n (suc j) _ (largest-next j before z w) (rw o at b) in
-          rw o (record { within = omega (arith, r .within); response = r .response; first = r .first })
+          let e = run-open f period n j before z (omega arith) in
+          let on : (i : ℕ) → i < suc j → suc i * period < f i = λ i l. elim (ℕ-discrete i j) [ yes g ↦ rw g (omega arith) | no g ↦ o i (omega arith) ] in
+          let r = run-reaches n (suc j) _ on (largest-next j before z o w) (rw e at b) in
+          rw e (record { within = omega (arith, r .within); response = r .response; first = r .first; open-ended = r .open-ended })
     ]
   ]
 
   -- A run that closes reaches its response.
   pub run-reached : (n : ℕ) → 0 < run f period n 0 none .response → Reaches f period n (run f period n 0 none)
-  run-reached n b = rw zero-add at (run-reaches n 0 none (record { most = λ i l. absurd (omega arith); reaches = λ p. absurd (omega arith) }) b)
+  run-reached n b =
+      rw zero-add
+      at (run-reaches n 0 none (λ i l. absurd (omega arith)) (record { most = λ i l. absurd (omega arith); reaches = λ p. absurd (omega arith) }) b)
 
 -- ---- one of the two bounds
 

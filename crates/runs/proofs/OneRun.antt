@@ -1,4 +1,5 @@
--- One of the two bounds: the run of instances is found, and a layer that asks for more than is spare has none. Assumes nothing.
+-- One of the two bounds: the run of instances is found, with the first that reaches its bound, and a layer that asks for more than is spare
+-- has none. Assumes nothing.
 use mathlib.Core.Path.{_≡_, refl, sym, _∙_, ap}
 use mathlib.Core.Bool.{Bool, true, false, cond, and-false}
 use mathlib.Core.List.{List}
@@ -12,15 +13,17 @@ use Rattle.sets.specs.Sets.{Set}
 use Rattle.records.specs.Jobs.{blankJob, jobAt}
 use Rattle.records.specs.declared.job.Job.{Job}
 use Rattle.response.specs.Demand.{ceilDiv, interference, otherQuanta, layerShare, demand, least, finish, plusDelay, none, mostInstances, largestResponse, firstBound}
+use Rattle.response.specs.Breakdown.{reaching}
+use Rattle.response.proofs.Breakdown.{bound-reached}
 use Rattle.response.proofs.Division.{ceil-covers, ceil-mono, ceil-le}
 use Rattle.response.proofs.Least.{least-found}
 use Rattle.response.proofs.Runs.{plus-from, plus-at-least, run-never}
 use Rattle.finishes.specs.Finishes.{whole, Table, utilisationsOf, tableOf, spareOf, carried}
-use Rattle.runs.specs.Runs.{ownDemand, finishBy, largestBy, runsOn, runBound}
+use Rattle.runs.specs.Runs.{ownDemand, finishBy, largestBy, runsOn, runFor, runBound}
 use Rattle.finishes.proofs.Climbing.{Below, below-zero, time-idle}
 use Rattle.finishes.proofs.Utilisation.{leaves}
 use Rattle.finishes.proofs.OneFinish.{time-least, starts-later, past-none}
-use Rattle.runs.proofs.FoundRuns.{run-found, turn-none}
+use Rattle.runs.proofs.FoundRuns.{run-found, sought-found, turn-none}
 
 -- The own demand of the work of n instances, with c cycles, in parts of a quantum.
 own-covers : (n cost quantum others c : ℕ) → n * cost ≤ c * quantum → n * (cost * (quantum + others)) ≤ quantum * (n * cost + c * others)
@@ -79,29 +82,32 @@ module _ (jobs : List Job) (q : List ℕ) (s a : Set) (k : ℕ) where
       let more : suc j * job .cost ≤ suc (suc j) * job .cost = mul-le-mul-right (job .cost) (omega arith) in
       omega (arith, more, mul-le-mul-right others (ceil-mono (suc j * job .cost) (suc (suc j) * job .cost) quantum more))
 
-  -- The finish of an instance as it is found from a time on.
-  abbrev pub foundFrom : ℕ → ℕ → ℕ
+  -- The finish of an instance as it is found from a time on, and a time from which that of instance j may be sought.
+  abbrev foundFrom : ℕ → ℕ → ℕ
   foundFrom =
       finishBy (tableOf jobs) a (spareOf (utilisationsOf jobs) a) (carried (tableOf jobs) a) quantum others (job .cost) (job .period) (job .deadline) (job .delay)
 
-  -- A time from which the finish of instance j may be sought: the start of time, and the finish of the instance before.
-  abbrev pub MayStart : ℕ → ℕ → Type 0
+  abbrev MayStart : ℕ → ℕ → Type 0
   MayStart j b = Below (λ t. own j + interference jobs a t) (limit j) b
 
-  pub starts-at-zero : MayStart 0 0
-  starts-at-zero = below-zero _ _
-
-  pub starts-at-finish : (j : ℕ) → 0 < finish jobs q s a k j → MayStart (suc j) (finish jobs q s a k j)
+  starts-at-finish : (j : ℕ) → 0 < finish jobs q s a k j → MayStart (suc j) (finish jobs q s a k j)
   starts-at-finish j p = rw (finish-is j) (starts-later jobs a (own j) (limit j) (own (suc j)) (limit (suc j)) (own-mono j) (rw (finish-is j) at p))
 
-  pub finish-found : (j b : ℕ) → MayStart j b → foundFrom j b ≡ finish jobs q s a k j
+  finish-found : (j b : ℕ) → MayStart j b → foundFrom j b ≡ finish jobs q s a k j
   unfolding finishBy
   finish-found j b g = time-least jobs a (own j) (limit j) b g ∙ sym (finish-is j)
 
-  pub largest-found : largestBy (tableOf jobs) a (spareOf (utilisationsOf jobs) a) (carried (tableOf jobs) a) quantum others job ≡ firstBound jobs q s a k
+  pub largest-found : largestBy (tableOf jobs) a (spareOf (utilisationsOf jobs) a) (carried (tableOf jobs) a) quantum others job 0 ≡ firstBound jobs q s a k
   unfolding largestResponse
-  largest-found =
-      run-found foundFrom (job .delay) (job .period) (finish jobs q s a k) MayStart finish-found starts-at-finish mostInstances 0 0 none starts-at-zero
+  largest-found = run-found foundFrom (job .delay) (job .period) (finish jobs q s a k) MayStart finish-found starts-at-finish mostInstances 0 0 none (below-zero _ _)
+
+  -- The run that is asked for its bound finds the first instance that reaches it.
+  sought-instance : 0 < firstBound jobs q s a k
+      → largestBy (tableOf jobs) a (spareOf (utilisationsOf jobs) a) (carried (tableOf jobs) a) quantum others job (firstBound jobs q s a k) ≡ suc (reaching jobs q s a k)
+  sought-instance b =
+      let w = bound-reached jobs q s a k b in
+      sought-found foundFrom (job .delay) (job .period) (finish jobs q s a k) MayStart finish-found starts-at-finish (firstBound jobs q s a k) (reaching jobs q s a k) b (sym (w .response))
+      (λ j l. (plus-from (job .delay) (finish jobs q s a k j) (w .first j l .0), w .first j l .1, w .open-ended j l)) mostInstances 0 0 0 (below-zero _ _) (omega arith) (w .within)
 
   -- A layer that asks for more than is spare: each instance that finishes does so past its next release.
   runs-past : 0 < quantum → job .period * quantum * spareOf (utilisationsOf jobs) a < job .cost * (quantum + others) * whole
@@ -143,25 +149,25 @@ module _ (spare quantum others : ℕ) (job : Job) where
   unfolding runsOn
   runs-over p h = simp (lt-ltb 0 quantum p, lt-ltb (job .period * quantum * spare) (job .cost * (quantum + others) * whole) h)
 
-module _ (w : Table) (a : Set) (quantum others : ℕ) (job : Job) where
+module _ (w : Table) (a : Set) (quantum others : ℕ) (job : Job) (sought : ℕ) where
   abbrev on : Bool
   on = runsOn (spareOf (w .utilisations) a) quantum others job
 
   abbrev found : ℕ
-  found = largestBy w a (spareOf (w .utilisations) a) (carried w a) quantum others job
+  found = largestBy w a (spareOf (w .utilisations) a) (carried w a) quantum others job sought
 
-  pub run-stops : on ≡ true → runBound w a quantum others job ≡ 0
-  unfolding runBound
+  pub run-stops : on ≡ true → runFor w a quantum others job sought ≡ 0
+  unfolding runFor
   run-stops e = ap (λ (b : Bool). cond b 0 found) e
 
-  pub run-runs : on ≡ false → runBound w a quantum others job ≡ found
-  unfolding runBound
+  pub run-runs : on ≡ false → runFor w a quantum others job sought ≡ found
+  unfolding runFor
   run-runs e = ap (λ (b : Bool). cond b 0 found) e
 
   -- A job without times has no bound.
-  pub run-blank : job ≡ blankJob → runBound w a quantum others job ≡ 0
-  unfolding runBound finishBy ownDemand
-  run-blank blank = either on (rw blank (turn-none _ 0 0 mostInstances 0 0 0 (omega arith) never-found))
+  pub run-blank : job ≡ blankJob → runFor w a quantum others job sought ≡ 0
+  unfolding runFor finishBy ownDemand
+  run-blank blank = either on (rw blank (turn-none _ 0 0 sought mostInstances 0 0 0 (omega arith) never-found))
     where
       either : (b : Bool) {x : ℕ} → x ≡ 0 → cond b 0 x ≡ 0
       either true e = refl
@@ -172,18 +178,31 @@ module _ (w : Table) (a : Set) (quantum others : ℕ) (job : Job) where
           let cycles : ceilDiv 0 quantum ≡ 0 = let h = ceil-le 0 quantum in omega arith in
           rw cycles (time-idle w a _ _ _ 0 0 (omega arith) ∙ past-none w a _ (omega arith))
 
--- Each of the two bounds is found.
-pub run-bound : (jobs : List Job) (q : List ℕ) (s a : Set) (k : ℕ)
-    → runBound (tableOf jobs) a (getD q k 0) (otherQuanta (length jobs) q s k) (jobAt jobs k) ≡ firstBound jobs q s a k
-run-bound jobs q s a k =
-    let w = tableOf jobs in
-    let n = getD q k 0 in
-    let o = otherQuanta (length jobs) q s k in
-    let job = jobAt jobs k in
-    elim (decLe 1 n) [
-      | no h ↦ run-runs w a n o job (runs-idle _ n o job (omega arith)) ∙ largest-found jobs q s a k
-      | yes h ↦ elim (decLe (job .cost * (n + o) * whole) (job .period * n * spareOf (utilisationsOf jobs) a)) [
-        | yes l ↦ run-runs w a n o job (runs-held _ n o job l) ∙ largest-found jobs q s a k
-        | no l ↦ run-stops w a n o job (runs-over _ n o job h (omega arith)) ∙ sym (never jobs q s a k h (omega arith))
+-- Each of the two bounds is found, and the first instance that reaches it.
+module _ (jobs : List Job) (q : List ℕ) (s a : Set) (k : ℕ) where
+  abbrev table : Table
+  table = tableOf jobs
+
+  abbrev beside : ℕ
+  beside = otherQuanta (length jobs) q s k
+
+  -- The layer asks for no more than is spare, or it has no bound.
+  either-way : (sought : ℕ) {x : ℕ} → largestBy table a (spareOf (utilisationsOf jobs) a) (carried table a) (getD q k 0) beside (jobAt jobs k) sought ≡ x
+      → (firstBound jobs q s a k ≡ 0 → 0 ≡ x) → runFor table a (getD q k 0) beside (jobAt jobs k) sought ≡ x
+  either-way sought e z =
+      let n = getD q k 0 in
+      let o = beside in
+      let own = jobAt jobs k in
+      elim (decLe 1 n) [
+        | no h ↦ run-runs table a n o own sought (runs-idle _ n o own (omega arith)) ∙ e
+        | yes h ↦ elim (decLe (own .cost * (n + o) * whole) (own .period * n * spareOf (utilisationsOf jobs) a)) [
+          | yes l ↦ run-runs table a n o own sought (runs-held _ n o own l) ∙ e
+          | no l ↦ run-stops table a n o own sought (runs-over _ n o own h (omega arith)) ∙ z (never jobs q s a k h (omega arith))
+        ]
       ]
-    ]
+
+  pub run-bound : runBound table a (getD q k 0) beside (jobAt jobs k) ≡ firstBound jobs q s a k
+  run-bound = either-way 0 (largest-found jobs q s a k) sym
+
+  pub reaching-found : 0 < firstBound jobs q s a k → runFor table a (getD q k 0) beside (jobAt jobs k) (firstBound jobs q s a k) ≡ suc (reaching jobs q s a k)
+  reaching-found b = either-way (firstBound jobs q s a k) (sought-instance jobs q s a k b) (λ z. absurd (omega arith))

@@ -5,14 +5,14 @@ ghost use Prim.Native.Nat.{_-_, _*_, _^_, _<_, _≤_};
 ghost use Rattle.sets.specs.Sets.{has};
 ghost use Rattle.response.specs.Demand.{ceilDiv};
 ghost use Rattle.finishes.specs.Finishes.{whole};
-ghost use Rattle.runs.specs.Runs.{ownDemand, largestBy, runsOn, runBound};
+ghost use Rattle.runs.specs.Runs.{ownDemand, isSought, largestBy, runsOn, runFor};
 use finishes::capacity;
 use finishes::capacity::WHOLE;
 use finishes::finish;
 use records::job::Job;
 
 // The most instances that a bound goes over.
-pub const INSTANCES: u32 = 64;
+const INSTANCES: u32 = 64;
 
 // Whether the layer asks for more than is spare of the processor: then no instance finishes by its next release.
 fn runs_on(spare: u64, quantum: u8, others: u16, job: Job) -> bool
@@ -47,8 +47,8 @@ fn own_demand(cost: u32, count: u32, quantum: u8, others: u16) -> u64
     work as u64 + (cycles as u64) * (others as u64)
 }
 
-// a less b; 0 where b is more. No entry.
-pub fn less(a: u32, b: u32) -> u32
+// a less b; 0 where b is more.
+fn less(a: u32, b: u32) -> u32
     ensures { λ r. ⌜ r ≡ a - b ⌝ }
 {
     if a < b {
@@ -57,8 +57,19 @@ pub fn less(a: u32, b: u32) -> u32
     a - b
 }
 
+// Whether a response is the one that is sought; none is, where that is 0.
+fn is_sought(sought: u16, response: u32) -> bool
+    ensures { λ r. ⌜ r ≡ isSought sought response ⌝ }
+{
+    if sought == 0 {
+        return false;
+    }
+    response == sought as u32
+}
+
 // The largest response of a job up to the first instance that finishes by its next release; 0 where a finish does not exist by the
-// instance's deadline, or where the last instance still runs past its next release. Each finish counts with the job's delay.
+// instance's deadline, or where the last instance still runs past its next release. Each finish counts with the job's delay. Where a
+// response is sought, the number of instances up to the first that has it.
 fn largest_response(
     jobs: [Job; Job::MOST],
     utilisations: [u32; Job::MOST],
@@ -68,8 +79,9 @@ fn largest_response(
     quantum: u8,
     others: u16,
     job: Job,
+    sought: u16,
 ) -> u16
-    ensures { λ r. ⌜ r ≡ largestBy (record { jobs = jobs; utilisations = utilisations }) (has above) spare carry quantum others job ⌝ }
+    ensures { λ r. ⌜ r ≡ largestBy (record { jobs = jobs; utilisations = utilisations }) (has above) spare carry quantum others job sought ⌝ }
 {
     let cost = job.cost as u32;
     let period = job.period as u32;
@@ -87,6 +99,9 @@ fn largest_response(
             return 0;
         }
         let response = finish + delay - release;
+        if is_sought(sought, response) {
+            return (instance + 1) as u16;
+        }
         if largest < response {
             largest = response;
         }
@@ -99,17 +114,19 @@ fn largest_response(
     0
 }
 
-// One of the two bounds: the largest response of a job beside a sum of other quanta and below a set. It is no entry and judges nothing: its
-// contract says what any numbers give.
-pub fn run_bound(
+// The run of a job beside a sum of other quanta and below a set: its largest response, which is one of the two bounds; or, where a response
+// is sought, the number of its instances up to the first that has it. It is no entry and judges nothing: its contract says what any numbers
+// give.
+pub fn run_for(
     jobs: [Job; Job::MOST],
     utilisations: [u32; Job::MOST],
     above: u8,
     quantum: u8,
     others: u16,
     job: Job,
+    sought: u16,
 ) -> u16
-    ensures { λ r. ⌜ r ≡ runBound (record { jobs = jobs; utilisations = utilisations }) (has above) quantum others job ⌝ }
+    ensures { λ r. ⌜ r ≡ runFor (record { jobs = jobs; utilisations = utilisations }) (has above) quantum others job sought ⌝ }
 {
     let capacity = capacity::capacity_of(jobs, utilisations, above);
     if runs_on(capacity.spare, quantum, others, job) {
@@ -124,5 +141,6 @@ pub fn run_bound(
         quantum,
         others,
         job,
+        sought,
     )
 }

@@ -22,19 +22,19 @@ use Rattle.search.specs.Search.{inTable, oneBound, firstDecides, boundBy
 use Rattle.search.specs.declared.workload.Workload.{Workload}
 use Rattle.runs.proofs.OneRun.{run-blank, run-bound}
 use Rattle.search.proofs.Dropping.{again-lt, none-dropped}
-use Rattle.search.proofs.Deciding.{Covered, decided, only-decides}
+use Rattle.search.proofs.Deciding.{Covered, decided, only-decides, decides-single}
 
 -- What is found is the bound, if a job that is covered has no second bound.
 found-by : (jobs : List Job) (unassignable : ℕ) (q : List ℕ) (s a : Set) (k : ℕ)
     → (Covered (length jobs) unassignable s a k → secondBound jobs q s a k ≡ 0)
-    → boundBy (record { jobs = jobs; utilisations = utilisationsOf jobs; unassignable = unassignable }) q s a k ≡ bound jobs q s a k
+    → boundBy (record { jobs = jobs; utilisations = utilisationsOf jobs; unassignable = unassignable; sought = 0 }) q s a k ≡ bound jobs q s a k
 unfolding boundBy bound
 found-by jobs unassignable q s a k none = go (firstDecides (length jobs) unassignable s a k) refl
   where
     go : (b : Bool) → firstDecides (length jobs) unassignable s a k ≡ b
-        → cond b (oneBound (record { jobs = jobs; utilisations = utilisationsOf jobs; unassignable = unassignable }) q s a k)
-        (lesser (oneBound (record { jobs = jobs; utilisations = utilisationsOf jobs; unassignable = unassignable }) q s a k)
-        (oneBound (record { jobs = jobs; utilisations = utilisationsOf jobs; unassignable = unassignable }) q (only k) (withNeighbours s a k) k))
+        → cond b (oneBound (record { jobs = jobs; utilisations = utilisationsOf jobs; unassignable = unassignable; sought = 0 }) q s a k)
+        (lesser (oneBound (record { jobs = jobs; utilisations = utilisationsOf jobs; unassignable = unassignable; sought = 0 }) q s a k)
+        (oneBound (record { jobs = jobs; utilisations = utilisationsOf jobs; unassignable = unassignable; sought = 0 }) q (only k) (withNeighbours s a k) k))
         ≡ bound jobs q s a k
     go true e =
         run-bound jobs q s a k
@@ -106,16 +106,23 @@ module _ (w : Workload) (q : List ℕ) (s a : Set) (k : ℕ) where
   by-first e = ap (λ (b : Bool). cond b (oneBound w q s a k) (lesser (oneBound w q s a k) (oneBound w q (only k) (withNeighbours s a k) k))) e
 
   -- A place past the table has no job, and no bound.
+  one-past : length (w .jobs) ≤ k → (t r : Set) → oneBound w q t r k ≡ 0
+  one-past l t r = run-blank (inTable w) r (getD q k 0) (otherQuanta (length (w .jobs)) q t k) (jobAt (w .jobs) k) (w .sought) (List·getD-eq-default (w .jobs) blankJob l)
+
   pub by-past : length (w .jobs) ≤ k → boundBy w q s a k ≡ 0
   unfolding boundBy
   by-past l = go (firstDecides (length (w .jobs)) (w .unassignable) s a k)
     where
-      past : (t : Set) (r : Set) → oneBound w q t r k ≡ 0
-      past t r = run-blank (inTable w) r (getD q k 0) (otherQuanta (length (w .jobs)) q t k) (jobAt (w .jobs) k) (List·getD-eq-default (w .jobs) blankJob l)
-
       go : (b : Bool) → cond b (oneBound w q s a k) (lesser (oneBound w q s a k) (oneBound w q (only k) (withNeighbours s a k) k)) ≡ 0
-      go true = past s a
-      go false = lesser-second (oneBound w q s a k) _ (past s a) ∙ past (only k) (withNeighbours s a k)
+      go true = one-past l s a
+      go false = lesser-second (oneBound w q s a k) _ (one-past l s a) ∙ one-past l (only k) (withNeighbours s a k)
+
+  -- A job that alone is taken for unassignable has its first bound.
+  pub first-only : (w .unassignable ≡ single k) → length (w .jobs) ≡ mostJobs → boundBy w q s a k ≡ oneBound w q s a k
+  first-only u size = elim (decLe mostJobs k) [
+    | yes l ↦ by-past (omega (arith, size)) ∙ sym (one-past (omega (arith, size)) s a)
+    | no l ↦ by-first (ap (λ (x : ℕ). firstDecides (length (w .jobs)) x s a k) u ∙ decides-single (length (w .jobs)) s a k (omega arith))
+  ]
 
 -- The second bound is the bound of the job alone, with its neighbours above too.
 pub by-both : (w : Workload) (q : List ℕ) (s a : Set) (k : ℕ) → firstDecides (length (w .jobs)) (w .unassignable) s a k ≡ false

@@ -1,14 +1,14 @@
 -- When the first bound is known to be the bound: the job has no neighbours, or it is unassignable and the others of these jobs are above it
 -- or beside it. Assumes nothing.
 use mathlib.Core.Path.{_≡_, refl, sym, _∙_, ap, ap₂, fun-ext}
-use mathlib.Core.Bool.{Bool, true, false, not, _&&_, _||_, false≢true}
+use mathlib.Core.Bool.{Bool, true, false, not, _&&_, _||_, or-true, false≢true}
 use mathlib.Core.Logic.{_⊎_, inl, inr}
 use Prim.Native.Nat.{ℕ, _^_, _<_}
 use native.Mathlib.Decide.{ℕ-discrete}
 use native.Mathlib.Omega.{arith}
 use lib.Dec.{eqb}
 use lib.Pow.{pow-lt}
-use borrow.Author.Tests.{ne-eqb}
+use borrow.Author.Tests.{eq-eqb, ne-eqb}
 use Rattle.sets.specs.Places.{every}
 use Rattle.sets.specs.Sets.{Set, has, single, remove, Sub, Alone, join, within}
 use Rattle.sets.proofs.Places.{every-at, every-of, every-stop}
@@ -132,3 +132,12 @@ single-removed k l = elim (ℕ-discrete (remove (single k) k) 0) [
 
 pub only-set : (k : ℕ) → k < mostJobs → has (single k) ≡ only k
 only-set k l = fun-ext (λ i. has-single k i l ∙ eqb-swap k i)
+
+-- Where a job alone is taken for unassignable, its first bound decides.
+pub decides-single : (n : ℕ) (s a : Set) (k : ℕ) → k < mostJobs → firstDecides n (single k) s a k ≡ true
+unfolding firstDecides
+decides-single n s a k l =
+    let own : has (single k) k ≡ true = has-single k k l ∙ eq-eqb k k refl in
+    let rest : every (λ i. not (has (remove (single k) k) i) || withNeighbours s a k i) n ≡ true =
+    every-of _ n (λ i il. ap (λ (b : Bool). not b || withNeighbours s a k i) (ap (λ (x : ℕ). has x i) (single-removed k l) ∙ has-none i)) in
+    ap₂ (λ (x y : Bool). every (λ i. not (neighbours s k i)) n || (x && y)) own rest ∙ or-true (every (λ i. not (neighbours s k i)) n)

@@ -12,7 +12,7 @@ use Rattle.records.specs.Jobs.{jobAt}
 use Rattle.records.specs.declared.job.Job.{Job}
 use Rattle.response.specs.Demand.{neighbours, otherQuanta, withNeighbours, only, lesser}
 use Rattle.finishes.specs.Finishes.{Table, utilisationsOf}
-use Rattle.runs.specs.Runs.{runBound}
+use Rattle.runs.specs.Runs.{runFor}
 use Rattle.search.specs.declared.workload.Workload.{Workload}
 
 -- ---- both bounds
@@ -20,10 +20,11 @@ use Rattle.search.specs.declared.workload.Workload.{Workload}
 abbrev pub inTable : Workload → Table
 inTable workload = record { jobs = workload .jobs; utilisations = workload .utilisations }
 
--- One of the two bounds of the job at place k in a layer.
+-- One of the two bounds of the job at place k in a layer; where a response is sought, the number of its instances up to the first that has
+-- it.
 abbrev pub oneBound : Workload → List ℕ → Set → Set → ℕ → ℕ
 oneBound workload quanta layer above k =
-    runBound (inTable workload) above (getD quanta k 0) (otherQuanta (length (workload .jobs)) quanta layer k) (jobAt (workload .jobs) k)
+    runFor (inTable workload) above (getD quanta k 0) (otherQuanta (length (workload .jobs)) quanta layer k) (jobAt (workload .jobs) k) (workload .sought)
 
 -- The first bound of a job among n is the bound: the job has no neighbours, or it is one of the jobs that are unassignable and the others of
 -- them are above it or its neighbours.
@@ -42,7 +43,7 @@ boundBy workload quanta layer above k =
 
 -- The jobs of a table with their utilisations, no job known to be unassignable.
 abbrev pub plainWorkload : List Job → Workload
-plainWorkload jobs = record { jobs = jobs; utilisations = utilisationsOf jobs; unassignable = 0 }
+plainWorkload jobs = record { jobs = jobs; utilisations = utilisationsOf jobs; unassignable = 0; sought = 0 }
 
 -- A job alone in its layer has no quantum.
 abbrev pub noQuanta : List ℕ
@@ -75,4 +76,4 @@ unassignableOf workload = dropAgain (drops workload) rounds (firstJobs mostJobs)
 
 -- The jobs of a table with the utilisation of each, and those that are unassignable.
 abbrev pub workload : List Job → Workload
-workload jobs = record { jobs = jobs; utilisations = utilisationsOf jobs; unassignable = unassignableOf (plainWorkload jobs) }
+workload jobs = record { jobs = jobs; utilisations = utilisationsOf jobs; unassignable = unassignableOf (plainWorkload jobs); sought = 0 }

@@ -4,7 +4,7 @@ ghost use Prim.Native.Nat.{_<_};
 ghost use Rattle.sets.specs.Sets.{has};
 ghost use Rattle.records.specs.Limits.{mostJobs};
 ghost use Rattle.response.specs.Demand.{lesser};
-ghost use Rattle.search.specs.Search.{plainWorkload, workload, firstDecides, boundBy};
+ghost use Rattle.search.specs.Search.{plainWorkload, workload, firstDecides, boundBy, oneBound};
 use crate::quanta::other_quanta;
 use crate::unassignable;
 use finishes::capacity;
@@ -17,6 +17,8 @@ pub struct Workload {
     pub(crate) utilisations: [u32; Job::MOST],
     // Jobs of which none is served alone below the others: such a job needs no second bound where the others are above it or beside it.
     pub(crate) unassignable: u8,
+    // The response of which the first instance is sought; 0 where the bound is.
+    pub(crate) sought: u16,
 }
 
 // Whether the first bound is the bound, for a reason that is known without the second.
@@ -63,6 +65,7 @@ impl Workload {
             jobs,
             utilisations,
             unassignable: 0,
+            sought: 0,
         }
     }
 
@@ -77,6 +80,7 @@ impl Workload {
             jobs,
             utilisations,
             unassignable,
+            sought: 0,
         }
     }
 
@@ -91,12 +95,38 @@ impl Workload {
         let entry = self.jobs[job];
         let quantum = quanta[job];
         let others = other_quanta(quanta, layer, job);
-        let first = runs::run_bound(self.jobs, self.utilisations, above, quantum, others, entry);
+        let sought = self.sought;
+        let first = runs::run_for(
+            self.jobs,
+            self.utilisations,
+            above,
+            quantum,
+            others,
+            entry,
+            sought,
+        );
         if first_decides(self.unassignable, layer, above, job) {
             return first;
         }
         let all = sets::join(above, sets::remove(layer, job));
         let alone = sets::single(job);
         lesser(first, self.bound(quanta, alone, all, job))
+    }
+
+    // The first bound of the job at a place, in a layer with a set above; where a response is sought, the number of its instances up to the
+    // first that has it. The job is taken for unassignable, so that `bound` leaves out the second bound. No entry; it judges nothing.
+    pub fn run(self, quanta: [u8; Job::MOST], layer: u8, above: u8, job: usize, sought: u16) -> u16
+        ensures { λ r. ⌜ r ≡ oneBound (record { jobs = self .jobs; utilisations = self .utilisations; unassignable = self .unassignable; sought = sought }) quanta (has layer) (has above) job ⌝ }
+    {
+        let jobs = self.jobs;
+        let utilisations = self.utilisations;
+        let unassignable = sets::single(job);
+        let first_alone = Workload {
+            jobs,
+            utilisations,
+            unassignable,
+            sought,
+        };
+        first_alone.bound(quanta, layer, above, job)
     }
 }

@@ -1,6 +1,6 @@
 use Prim.Native.Nat.{ℕ, suc, _+_, _-_, _*_, _^_, _≤_, _<_, max}
 use mathlib.Core.Path.{_≡_, sym, _∙_, ap, ap₂}
-use mathlib.Core.Logic.{⊎-elim}
+use mathlib.Core.Logic.{_≢_, ⊎-elim}
 use native.Mathlib.Nat.{mul-le-mul}
 use native.Mathlib.Omega.{arith}
 use mir.Val.{Fits}
@@ -10,8 +10,8 @@ use Rattle.records.specs.declared.job.Job.{Job}
 use mathlib.Core.List.{List}
 use Rattle.response.specs.Demand.{mostInstances}
 use Rattle.finishes.proofs.Climbing.{time-answered}
-use Rattle.runs.specs.Runs.{ownDemand, finishBy, runBy}
-use Rattle.runs.proofs.FoundRuns.{turn-none, turn-closed, turn-open, turn-out}
+use Rattle.runs.specs.Runs.{ownDemand, finishBy, isSought, runBy}
+use Rattle.runs.proofs.FoundRuns.{turn-none, turn-hit, turn-closed, turn-open, turn-out}
 use borrow.Author.Needs.{needs}
 use Rattle.runs.proofs.largest_response.Statement.{statement}
 use Rattle.runs.proofs.largest_response.Tie as tie
@@ -24,13 +24,13 @@ found jobs utilisations above spare carry quantum others cost period deadline de
 -- What is sought is what the run from this instance on finds; each instance so far has finished, its delay counted, after the release
 -- of the next.
 abbrev Inv-loop : tie.InvT-loop
-Inv-loop jobs utilisations above spare carry quantum others cost period deadline delay largest₀ before₀ instance₀ largest before instance =
+Inv-loop jobs utilisations above spare carry quantum others sought cost period deadline delay largest₀ before₀ instance₀ largest before instance =
     (instance ≤ mostInstances) × (largest ≤ deadline) × (instance * period ≤ before + delay)
-    × (runBy (found jobs utilisations above spare carry quantum others cost period deadline delay) delay period mostInstances 0 0 0
-    ≡ runBy (found jobs utilisations above spare carry quantum others cost period deadline delay) delay period (mostInstances - instance) instance before largest)
+    × (runBy (found jobs utilisations above spare carry quantum others cost period deadline delay) delay period sought mostInstances 0 0 0
+    ≡ runBy (found jobs utilisations above spare carry quantum others cost period deadline delay) delay period sought (mostInstances - instance) instance before largest)
 
 abbrev μ-loop : tie.MeasureT-loop
-μ-loop jobs utilisations above spare carry quantum others cost period deadline delay largest₀ before₀ instance₀ largest before instance = mostInstances - instance
+μ-loop jobs utilisations above spare carry quantum others sought cost period deadline delay largest₀ before₀ instance₀ largest before instance = mostInstances - instance
 
 cast-cost : tie.Need-cast-cost Inv-loop μ-loop
 cast-cost c = search needs
@@ -115,11 +115,16 @@ module _ (c : tie.After-time-for Inv-loop μ-loop) where
   in-time : (c .time-for .result ≡ 0 → ⊥) → c .time-for .result + job .delay ≤ instance * job .period + job .deadline
   in-time h = omega (arith, h, c .time-for .ensures .1, c .before .less .ensures)
 
+-- What is sought.
+sought : (c : tie.After-time-for Inv-loop μ-loop) → ℕ
+sought c = turn c .before .before .before .before .before .before .args .sought
+
 returns : tie.Need-returns Inv-loop μ-loop
+unfolding sought
 returns c =
     let p = c .before in
     let l = turn p .before .loop in
-    sym (l .inv .3 ∙ turn-none (finishes p) (job p .delay) (job p .period) mostInstances (l .instance) (l .before) (l .largest) (omega (arith, turn p .loop-test .taken)) (sym (finish p) ∙ c .if1 .taken))
+    sym (l .inv .3 ∙ turn-none (finishes p) (job p .delay) (job p .period) (sought p) mostInstances (l .instance) (l .before) (l .largest) (omega (arith, turn p .loop-test .taken)) (sym (finish p) ∙ c .if1 .taken))
 
 add-response : tie.Need-add-response Inv-loop μ-loop
 add-response c =
@@ -131,44 +136,75 @@ sub-response c =
     let p = c .before in
     omega (arith, turn p .before .loop .inv .2, p .time-for .ensures .2 (c .if1 .left))
 
+is-sought-requires : tie.Need-is-sought-requires Inv-loop μ-loop
+is-sought-requires c κs = search needs
+
+-- After the test: the response is the definition's, and so is the test.
+module _ (c : tie.After-is-sought Inv-loop μ-loop) where
+  abbrev p : tie.After-time-for Inv-loop μ-loop
+  p = c .before .before
+
+  found-some : finishes p (instance p) (before p) ≢ 0
+  found-some e = c .before .if1 .left (finish p ∙ e)
+
+  hits : c .is-sought .result ≡ isSought (sought p) (finishes p (instance p) (before p) + job p .delay - instance p * job p .period)
+  unfolding sought
+  hits = c .is-sought .ensures ∙ ap (λ (x : ℕ). isSought (sought p) (x + job p .delay - instance p * job p .period)) (finish p)
+
+add-result : tie.Need-add-result Inv-loop μ-loop
+add-result c = search needs
+
+cast-result : tie.Need-cast-result Inv-loop μ-loop
+cast-result c = omega (arith, turn (p (c .before)) .loop-test .taken)
+
+returns-2 : tie.Need-returns-2 Inv-loop μ-loop
+unfolding sought
+returns-2 c =
+    let t = c .before in
+    let l = turn (p t) .before .loop in
+    sym (l .inv .3
+    ∙ turn-hit (finishes (p t)) (job (p t) .delay) (job (p t) .period) (sought (p t)) mostInstances (l .instance) (l .before) (l .largest) (omega (arith, turn (p t) .loop-test .taken)) (found-some t) (sym (hits t) ∙ c .if2 .taken)
+    ∙ sym (one-more (p t)))
+
 -- The larger of the response and the largest before.
-grown : (c : tie.Joined2 Inv-loop μ-loop)
-    → let p = c .before .before in
-    (c .if2 .largest ≡ max (turn p .before .loop .largest) (p .time-for .result + job p .delay - instance p * job p .period)) × (c .if2 .largest ≤ job p .deadline)
+grown : (c : tie.Joined3 Inv-loop μ-loop)
+    → let p = c .before .before .before .before in
+    (c .if3 .largest ≡ max (turn p .before .loop .largest) (p .time-for .result + job p .delay - instance p * job p .period)) × (c .if3 .largest ≤ job p .deadline)
 grown c =
-    let p = c .before .before in
+    let p = c .before .before .before .before in
     let l = turn p .before .loop in
     ⊎-elim
-    (λ w. (omega (arith, w .0 .taken, w .1), omega (arith, w .1, in-time p (c .before .if1 .left))))
+    (λ w. (omega (arith, w .0 .taken, w .1), omega (arith, w .1, in-time p (c .before .before .before .if1 .left))))
     (λ w. (omega (arith, w .0 .left, w .1), omega (arith, w .1, l .inv .1)))
-    (c .if2 .came)
+    (c .if3 .came)
 
-add-if3 : tie.Need-add-if3 Inv-loop μ-loop
-add-if3 c =
-    let p = c .before .before in
-    omega (arith, release (turn p), deadline-fits (turn p), in-time p (c .before .if1 .left))
+add-if4 : tie.Need-add-if4 Inv-loop μ-loop
+add-if4 c =
+    let p = c .before .before .before .before in
+    omega (arith, release (turn p), deadline-fits (turn p), in-time p (c .before .before .before .if1 .left))
 
-add-if3-2 : tie.Need-add-if3-2 Inv-loop μ-loop
-add-if3-2 c =
-    let p = c .before .before in
+add-if4-2 : tie.Need-add-if4-2 Inv-loop μ-loop
+add-if4-2 c =
+    let p = c .before .before .before .before in
     let h : Fits w16 (job p .period) = search needs in
     omega (arith, release (turn p))
 
-cast-result : tie.Need-cast-result Inv-loop μ-loop
-cast-result c =
+cast-result-2 : tie.Need-cast-result-2 Inv-loop μ-loop
+cast-result-2 c =
     let g = c .before .before in
-    omega (arith, grown g .1, deadline-fits (turn (g .before .before)))
+    omega (arith, grown g .1, deadline-fits (turn (g .before .before .before .before)))
 
-returns-2 : tie.Need-returns-2 Inv-loop μ-loop
-returns-2 c =
+returns-3 : tie.Need-returns-3 Inv-loop μ-loop
+unfolding sought
+returns-3 c =
     let g = c .before .before in
-    let p = g .before .before in
-    let l = turn p .before .loop in
-    let J = job p .delay in
+    let t = g .before .before in
+    let l = turn (p t) .before .loop in
+    let J = job (p t) .delay in
     sym (l .inv .3
-    ∙ turn-closed (finishes p) J (job p .period) mostInstances (l .instance) (l .before) (l .largest) (omega (arith, turn p .loop-test .taken))
-    (λ e. g .before .if1 .left (finish p ∙ e)) (omega (arith, finish p, c .before .if3 .taken))
-    ∙ ap (λ (x : ℕ). max (l .largest) (x + J - l .instance * job p .period)) (sym (finish p)) ∙ sym (grown g .0))
+    ∙ turn-closed (finishes (p t)) J (job (p t) .period) (sought (p t)) mostInstances (l .instance) (l .before) (l .largest) (omega (arith, turn (p t) .loop-test .taken))
+    (found-some t) (sym (hits t) ∙ g .before .if2 .left) (omega (arith, finish (p t), c .before .if4 .taken))
+    ∙ ap (λ (x : ℕ). max (l .largest) (x + J - l .instance * job (p t) .period)) (sym (finish (p t))) ∙ sym (grown g .0))
 
 add-instance : tie.Need-add-instance Inv-loop μ-loop
 add-instance c = search needs
@@ -177,30 +213,33 @@ loop-less : tie.Need-loop-less Inv-loop μ-loop
 loop-less c = search needs
 
 loop-again : tie.Need-loop-again Inv-loop μ-loop
+unfolding sought
 loop-again c =
     let g = c .before in
-    let p = g .before .before in
-    let l = turn p .before .loop in
-    let J = job p .delay in
-    let T = job p .period in
-    let open-ended : suc (l .instance) * T < finishes p (l .instance) (l .before) + J = omega (arith, finish p, c .if3 .left) in (
-      omega (arith, turn p .loop-test .taken),
+    let t = g .before .before in
+    let l = turn (p t) .before .loop in
+    let J = job (p t) .delay in
+    let T = job (p t) .period in
+    let f = finishes (p t) in
+    let x = sought (p t) in
+    let open-ended : suc (l .instance) * T < f (l .instance) (l .before) + J = omega (arith, finish (p t), c .if4 .left) in (
+      omega (arith, turn (p t) .loop-test .taken),
       grown g .1,
-      omega (arith, c .if3 .left),
+      omega (arith, c .if4 .left),
       l .inv .3
-          ∙ turn-open (finishes p) J T mostInstances (l .instance) (l .before) (l .largest) (omega (arith, turn p .loop-test .taken)) (λ e. g .before .if1 .left (finish p ∙ e)) open-ended
-          ∙ ap (λ (n : ℕ). runBy (finishes p) J T (mostInstances - n) n (finishes p (l .instance) (l .before)) (max (l .largest) (finishes p (l .instance) (l .before) + J - l .instance * T))) (sym (one-more p))
-          ∙ ap₂ (runBy (finishes p) J T (mostInstances - (l .instance + 1)) (l .instance + 1)) (sym (finish p))
-          (ap (λ (x : ℕ). max (l .largest) (x + J - l .instance * T)) (sym (finish p)) ∙ sym (grown g .0)),
+          ∙ turn-open f J T x mostInstances (l .instance) (l .before) (l .largest) (omega (arith, turn (p t) .loop-test .taken)) (found-some t) (sym (hits t) ∙ g .before .if2 .left) open-ended
+          ∙ ap (λ (n : ℕ). runBy f J T x (mostInstances - n) n (f (l .instance) (l .before)) (max (l .largest) (f (l .instance) (l .before) + J - l .instance * T))) (sym (one-more (p t)))
+          ∙ ap₂ (runBy f J T x (mostInstances - (l .instance + 1)) (l .instance + 1)) (sym (finish (p t)))
+          (ap (λ (y : ℕ). max (l .largest) (y + J - l .instance * T)) (sym (finish (p t))) ∙ sym (grown g .0)),
     )
 
-returns-3 : tie.Need-returns-3 Inv-loop μ-loop
-returns-3 c =
+returns-4 : tie.Need-returns-4 Inv-loop μ-loop
+returns-4 c =
     let l = c .before .loop in
     let e : mostInstances - l .instance ≡ 0 = omega (arith, c .loop-test .left) in
     let a = c .before .before .before .before .before .before .args in
     let f = found (a .jobs) (a .utilisations) (a .above) (a .spare) (a .carry) (a .quantum) (a .others) (a .job .cost) (a .job .period) (a .job .deadline) (a .job .delay) in
-    sym (l .inv .3 ∙ ap (λ (n : ℕ). runBy f (a .job .delay) (a .job .period) n (l .instance) (l .before) (l .largest)) e ∙ turn-out f (a .job .delay) (a .job .period) (l .instance) (l .before) (l .largest))
+    sym (l .inv .3 ∙ ap (λ (n : ℕ). runBy f (a .job .delay) (a .job .period) (a .sought) n (l .instance) (l .before) (l .largest)) e ∙ turn-out f (a .job .delay) (a .job .period) (a .sought) (l .instance) (l .before) (l .largest))
 
 pub largest-response-spec : {M : Type 1} → statement M
 largest-response-spec =
@@ -222,11 +261,15 @@ largest-response-spec =
     returns
     add-response
     sub-response
-    add-if3
-    add-if3-2
+    is-sought-requires
+    add-result
     cast-result
     returns-2
+    add-if4
+    add-if4-2
+    cast-result-2
+    returns-3
     add-instance
     loop-less
     loop-again
-    returns-3)
+    returns-4)

@@ -2,7 +2,7 @@ use Prim.Native.Nat.{ℕ, min}
 use mathlib.Core.Path.{_≡_, sym, ap, subst, _∙_}
 use mathlib.Core.List.{List}
 use native.Mathlib.Omega.{arith}
-use lib.ListN.{length, take}
+use lib.ListN.{length, take, length-map}
 use Rattle.sets.specs.Sets.{has, Collects}
 use Rattle.records.specs.Limits.{mostJobs}
 use Rattle.configuration.specs.Settings.{levelAt}
@@ -22,7 +22,7 @@ array-copy-out-setting c = search needs
 returns : tie.Need-returns
 returns c =
     let a = c .before .before .args in
-    sym (parts-unplaced (take (a .n) (a .jobs)) (a .t3) (a .k) (c .if1 .taken))
+    sym (parts-unplaced (take (a .n) (a .workload .jobs)) (a .t2) (a .k) (c .if1 .taken))
 
 level-set-requires : tie.Need-level-set-requires
 level-set-requires c κs = search needs
@@ -44,14 +44,14 @@ returns-2 c =
     let l = c .before .before .before in
     let s = l .before .before .before in
     let a = s .args in
-    let eight : length (a .jobs) ≡ mostJobs = search needs in
+    let eight : length (a .workload .jobs) ≡ mostJobs = simp length-map at (s .good .0 .1 .1 .0 .1 .0 .1) in
     let cut : min (a .n) mostJobs ≡ a .n = omega (arith, s .pre .0) in
-    let level = levelAt (a .t3) (a .k) in
+    let level = levelAt (a .t2) (a .k) in
     c .parts-of .ensures
-    ∙ ap (λ (q : List ℕ). parts (a .jobs) q (has (l .level-set .result)) (has (above .result)) (a .k)) (c .before .quanta-of .ensures)
-    ∙ parts-code (a .jobs) (a .t3) (a .n) (a .k) (omega (arith, s .pre .0)) (s .pre .1) (l .level-set .result) (above .result)
-    (subst (λ (m : ℕ). Collects m (layerOf (a .t3) level) (l .level-set .result)) cut (l .level-set .ensures))
-    (subst (λ (m : ℕ). Collects m (aboveOf (a .t3) level) (above .result)) cut (above .ensures)) (l .before .if1 .left)
+    ∙ ap (λ (q : List ℕ). parts (a .workload .jobs) q (has (l .level-set .result)) (has (above .result)) (a .k)) (c .before .quanta-of .ensures)
+    ∙ parts-code (a .workload .jobs) (a .t2) (a .n) (a .k) (omega (arith, s .pre .0)) (s .pre .1) (l .level-set .result) (above .result)
+    (subst (λ (m : ℕ). Collects m (layerOf (a .t2) level) (l .level-set .result)) cut (l .level-set .ensures))
+    (subst (λ (m : ℕ). Collects m (aboveOf (a .t2) level) (above .result)) cut (above .ensures)) (l .before .if1 .left)
 
 pub parts-in-spec : {M : Type 1} → statement M
 parts-in-spec =

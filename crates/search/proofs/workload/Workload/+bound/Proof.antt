@@ -8,7 +8,7 @@ use Rattle.sets.specs.Sets.{Set, has, join, remove}
 use Rattle.records.specs.Limits.{mostJobs}
 use Rattle.records.specs.Jobs.{jobAt}
 use Rattle.response.specs.Demand.{otherQuanta, lesser}
-use Rattle.runs.specs.Runs.{runBound}
+use Rattle.runs.specs.Runs.{runFor}
 use Rattle.search.specs.Search.{inTable, oneBound, firstDecides, boundBy}
 use Rattle.search.proofs.Deciding.{with-set, single-removed, only-set, decides-alone}
 use Rattle.search.proofs.BothBounds.{by-first, by-both, by-past}
@@ -19,7 +19,7 @@ use Rattle.search.proofs.workload.Workload.bound.Reads as bound
 use Rattle.search.proofs.workload.Workload.bound.Kinds as bound-kinds
 use Rattle.search.proofs.workload.Workload.+bound.Lts-bound as bound-lts
 use Rattle.search.proofs.quanta.other_quanta.Reads as other-quanta-reads
-use Rattle.runs.proofs.run_bound.Reads as run-bound-reads
+use Rattle.runs.proofs.run_for.Reads as run-for-reads
 use Rattle.search.proofs.workload.first_decides.Reads as first-decides-reads
 use Rattle.search.proofs.workload.lesser.Reads as lesser-reads
 use Rattle.sets.proofs.join.Reads as join-reads
@@ -41,8 +41,8 @@ abbrev claims : ℕ → bound-lts.Claims
 claims t = (
   other-quanta-reads.Asked,
   other-quanta-reads.Learnt,
-  run-bound-reads.Asked,
-  run-bound-reads.Learnt,
+  run-for-reads.Asked,
+  run-for-reads.Learnt,
   first-decides-reads.Asked,
   first-decides-reads.Learnt,
   remove-reads.Asked,
@@ -77,8 +77,8 @@ bound-array-read-quantum t c = search needs
 bound-other-quanta-requires : (t : ℕ) → bound-lts.Need-other-quanta-requires (claims t) (bound-at t) bound.Post
 bound-other-quanta-requires t c κs = search needs
 
-bound-run-bound-requires : (t : ℕ) → bound-lts.Need-run-bound-requires (claims t) (bound-at t) bound.Post
-bound-run-bound-requires t c κs = search needs
+bound-run-for-requires : (t : ℕ) → bound-lts.Need-run-for-requires (claims t) (bound-at t) bound.Post
+bound-run-for-requires t c κs = search needs
 
 bound-first-decides-requires : (t : ℕ) → bound-lts.Need-first-decides-requires (claims t) (bound-at t) bound.Post
 bound-first-decides-requires t c κs = search needs
@@ -91,11 +91,11 @@ module _ (t : ℕ) (c : bound-lts.After-first-decides (claims t) (bound-at t) bo
   place : start .args .job < mostJobs
   place = omega (arith, c .before .before .before .before .before .before .if1 .left)
 
-  first : c .before .run-bound .result ≡ oneBound (start .args .t1) (start .args .t2) (has (start .args .layer)) (has (start .args .above)) (start .args .job)
+  first : c .before .run-for .result ≡ oneBound (start .args .t1) (start .args .t2) (has (start .args .layer)) (has (start .args .above)) (start .args .job)
   first =
       let a = start .args in
-      let run : ℕ → ℕ = λ others. runBound (inTable (a .t1)) (has (a .above)) (getD (a .t2) (a .job) 0) others (jobAt (a .t1 .jobs) (a .job)) in
-      let found : c .before .run-bound .result ≡ run (c .before .before .before .before .other-quanta .result) = c .before .run-bound .ensures in
+      let run : ℕ → ℕ = λ others. runFor (inTable (a .t1)) (has (a .above)) (getD (a .t2) (a .job) 0) others (jobAt (a .t1 .jobs) (a .job)) (a .t1 .sought) in
+      let found : c .before .run-for .result ≡ run (c .before .before .before .before .other-quanta .result) = c .before .run-for .ensures in
       found
       ∙ ap run (c .before .before .before .before .other-quanta .ensures ∙ ap (λ (n : ℕ). otherQuanta n (a .t2) (has (a .layer)) (a .job)) (sym (size t start)))
 
@@ -135,7 +135,7 @@ bound-returns-3 t c =
     let s = start t d in
     let a = s .args in
     let second : c .before .bound .result ≡ boundBy (a .t1) (a .t2) (has (c .before .before .single .result)) (has (j .join .result)) (a .job) = c .before .bound .ensures in
-    let found : c .lesser .result ≡ lesser (d .before .run-bound .result) (c .before .bound .result) = c .lesser .ensures in
+    let found : c .lesser .result ≡ lesser (d .before .run-for .result) (c .before .bound .result) = c .lesser .ensures in
     found
     ∙ ap₂ lesser (first t d)
     (second
@@ -152,7 +152,7 @@ pub +bound-spec : {M : Type 1} → statement M
     (bound-element-copy-out-entry t)
     (bound-array-read-quantum t)
     (bound-other-quanta-requires t)
-    (bound-run-bound-requires t)
+    (bound-run-for-requires t)
     (bound-first-decides-requires t)
     (bound-returns-2 t)
     (bound-remove-requires t)

@@ -16,7 +16,7 @@ unassignable-jobs-requires c κs = search needs
 returns : tie.Need-returns
 returns c =
     let p = c .before .before in
-    ap₂ (λ (utilisations : List ℕ) (unassignable : ℕ). record { jobs = p .before .args .jobs; utilisations = utilisations; unassignable = unassignable })
+    ap₂ (λ (utilisations : List ℕ) (unassignable : ℕ). record { jobs = p .before .args .jobs; utilisations = utilisations; unassignable = unassignable; sought = 0 })
     (ap (λ (w : Workload). w .utilisations) (p .plain .ensures)) (c .before .unassignable-jobs .ensures ∙ ap unassignableOf (p .plain .ensures))
 
 pub new-spec : {M : Type 1} → statement M

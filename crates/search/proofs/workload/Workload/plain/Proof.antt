@@ -9,7 +9,7 @@ utilisations-of-requires : tie.Need-utilisations-of-requires
 utilisations-of-requires c κs = search needs
 
 returns : tie.Need-returns
-returns c = ap (λ (utilisations : List ℕ). record { jobs = c .before .args .jobs; utilisations = utilisations; unassignable = 0 }) (c .utilisations-of .ensures)
+returns c = ap (λ (utilisations : List ℕ). record { jobs = c .before .args .jobs; utilisations = utilisations; unassignable = 0; sought = 0 }) (c .utilisations-of .ensures)
 
 pub plain-spec : {M : Type 1} → statement M
 plain-spec = tie.close (tie.spec utilisations-of-requires returns)

@@ -5,8 +5,8 @@ use Rattle.finishes.specs.Finishes.{Table, spareOf}
 use Rattle.runs.specs.Runs.{runsOn, largestBy}
 use Rattle.runs.proofs.OneRun.{run-stops, run-runs}
 use borrow.Author.Needs.{needs}
-use Rattle.runs.proofs.run_bound.Statement.{statement}
-use Rattle.runs.proofs.run_bound.Tie as tie
+use Rattle.runs.proofs.run_for.Statement.{statement}
+use Rattle.runs.proofs.run_for.Tie as tie
 
 capacity-of-requires : tie.Need-capacity-of-requires
 capacity-of-requires c κs = search needs
@@ -28,7 +28,7 @@ module _ (c : tie.After-runs-on) where
 returns : tie.Need-returns
 returns c =
     let a = start (c .before) .args in
-    sym (run-stops (table (c .before)) (has (a .above)) (a .quantum) (a .others) (a .job) (sym (runs (c .before)) ∙ c .if1 .taken))
+    sym (run-stops (table (c .before)) (has (a .above)) (a .quantum) (a .others) (a .job) (a .sought) (sym (runs (c .before)) ∙ c .if1 .taken))
 
 largest-response-requires : tie.Need-largest-response-requires
 largest-response-requires c κs = search needs
@@ -38,12 +38,12 @@ returns-2 c =
     let r = c .before .before in
     let a = start r .args in
     let of = r .before .capacity-of .result in
-    let found : c .largest-response .result ≡ largestBy (table r) (has (a .above)) (of .spare) (of .carry) (a .quantum) (a .others) (a .job) = c .largest-response .ensures in
+    let found : c .largest-response .result ≡ largestBy (table r) (has (a .above)) (of .spare) (of .carry) (a .quantum) (a .others) (a .job) (a .sought) = c .largest-response .ensures in
     found
-    ∙ ap₂ (λ (spare carry : ℕ). largestBy (table r) (has (a .above)) spare carry (a .quantum) (a .others) (a .job)) (r .before .capacity-of .ensures .0) (r .before .capacity-of .ensures .2)
-    ∙ sym (run-runs (table r) (has (a .above)) (a .quantum) (a .others) (a .job) (sym (runs r) ∙ c .before .if1 .left))
+    ∙ ap₂ (λ (spare carry : ℕ). largestBy (table r) (has (a .above)) spare carry (a .quantum) (a .others) (a .job) (a .sought)) (r .before .capacity-of .ensures .0) (r .before .capacity-of .ensures .2)
+    ∙ sym (run-runs (table r) (has (a .above)) (a .quantum) (a .others) (a .job) (a .sought) (sym (runs r) ∙ c .before .if1 .left))
 
-pub run-bound-spec : {M : Type 1} → statement M
-run-bound-spec =
+pub run-for-spec : {M : Type 1} → statement M
+run-for-spec =
     tie.close
     (tie.spec capacity-of-requires runs-on-requires returns largest-response-requires returns-2)
