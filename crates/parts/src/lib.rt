@@ -100,8 +100,8 @@ fn second_parts(
     let count = workload.run(quanta, alone, all, job, bound) as u32;
     let finish = finish_of(entry, count, bound);
     let beside = demand::work_by(workload.jobs, neighbours, finish);
-    let from_above = demand::work_by(workload.jobs, above, finish);
-    parts_at(entry, count, 2, beside, from_above)
+    let above_alone = demand::work_by(workload.jobs, above, finish);
+    parts_at(entry, count, 2, beside, above_alone)
 }
 
 // The second bound of a job, from its first, which it is without neighbours.

@@ -27,7 +27,8 @@ mul-taken : tie.Need-mul-taken
 mul-taken c =
     let a = c .before .before .args in
     let h : Fits w16 (a .job .period) = search needs in
-    omega (arith, instances-fit 63 (a .count - 1) (a .job .period) (omega (arith, c .before .before .pre .1)) (omega arith))
+    let few = c .before .before .pre .1 in
+    omega (arith, instances-fit 63 (a .count - 1) (a .job .period) (omega (arith, few)) (omega arith), instances-fit 64 (a .count) (a .job .period) (omega (arith, few)) (omega arith))
 
 cast-delay : tie.Need-cast-delay
 cast-delay c = search needs
