@@ -6,7 +6,7 @@ use crate::lists::{Kind, Kinds};
 use crate::measures::same_algorithm::configurations;
 use crate::measures::{time_calls, Scale};
 use crate::random::Random;
-use crate::report::{self, ratio, Goal};
+use crate::report;
 use crate::same::breakdown::{self, PARTS_SIZE};
 use crate::same::marker::BOUND_SIZE;
 
@@ -45,8 +45,7 @@ fn compare(scale: &Scale, random: &mut Random, kinds: &Kinds, ending: &str) {
     let ours = |case: &Case, answer: &mut Answer| case.call_breakdown(library::breakdown, answer);
     let rust = |case: &Case, answer: &mut Answer| case.call_breakdown(breakdown::breakdown, answer);
     let times = time_calls(&cases, scale.effort, ours, rust);
-    let goal = Goal::AtMost(1.25);
-    ratio(&format!("h breakdown{ending}"), &times, "rust", goal);
+    report::within(&format!("h breakdown{ending}"), &times, "rust", None);
     let bounds = |case: &Case, answer: &mut Answer| case.call_mark(library::bounds, answer);
     let times = time_calls(&cases, scale.effort, ours, bounds);
     let name = format!("h breakdown beside bounds{ending}");

@@ -166,7 +166,7 @@ impl<I: Iteration> Workload<I> {
 
     /// One of the two bounds: the largest response beside a sum of other quanta and below a set. It
     /// and the search for a finish are inlined wherever they are called: a compiler left to itself
-    /// inlines a function with one caller, and the bounds lost some 3 % when they got a second.
+    /// inlines a function only while it has one caller.
     #[inline(always)]
     pub fn run_bound(&self, above: u8, job: &Job, quantum: u32, others: u32) -> u16 {
         let load = self.iteration.load(|| self.load(above));

@@ -18,11 +18,15 @@ use Rattle.records.proofs.Outcomes.{accepts, gives, accepts-both, accepts-first
 use Rattle.records.proofs.FixedWidth.{chunks-flat, length-flat}
 use Rattle.records.proofs.Reading.{accepted-list, longest-at}
 use Rattle.configuration.specs.declared.setting.Setting.{Setting}
-use Rattle.configuration.specs.Settings.{levelAt}
+use Rattle.configuration.specs.Settings.{fifo, settingAt, levelAt}
+use Rattle.configuration.specs.Configuration.{Configuration}
+use Rattle.configuration.specs.Shape.{Shape, unplaced, alone, shared}
+use Rattle.configuration.proofs.Shapes.{shapes}
+use Rattle.configuration.proofs.RoundTrip.{block-configuration}
 use Rattle.configuration.specs.Blocks.{settingsOf, recordTests}
 use Rattle.response.specs.declared.parts.Parts.{Parts}
 use Rattle.response.specs.Breakdown.{noParts}
-use Rattle.response.proofs.Breakdown.{Apart, parts-make, parts-held, parts-fit, parts-none}
+use Rattle.response.proofs.Breakdown.{Apart, parts-make, parts-held, parts-fit, parts-none, which-alone}
 use Rattle.marker.specs.Bounds.{quantaOf, layerOf, aboveOf, boundAt}
 use Rattle.marker.specs.Marks.{boundSize, marked, boundsRoom, boundsTests, boundsOutcome}
 use Rattle.marker.proofs.Configured.{bound-unplaced, bound-placed}
@@ -53,7 +57,7 @@ parts-back p s =
     ∙ ap₂ (λ (x y : ℕ). with (p .own) (p .share) x y (again (p .taken))) (again-is (p .above)) (again-is (p .delay))
     ∙ ap (with (p .own) (p .share) (p .above) (p .delay)) (again-is (p .taken))
 
-pub breakdown-back : (xs : List Parts) → breakdownIn (length xs) (flat partsBytes xs) ≡ xs
+breakdown-back : (xs : List Parts) → breakdownIn (length xs) (flat partsBytes xs) ≡ xs
 breakdown-back xs = chunks-flat partsSize partsBytes partsAtStart parts-width parts-back xs
 
 -- ---- one job
@@ -68,6 +72,7 @@ parts-of jobs settings k ht hd = elim (ℕ-discrete (levelAt settings k) 0) [
   | yes z ↦ rw (parts-unplaced jobs settings k z, bound-unplaced jobs settings k z) (record {
     makes = refl;
     taken = omega arith;
+    which = λ e. absurd (e refl);
     bytes = omega arith;
     long = omega arith;
     zeros = λ e. refl;
@@ -80,11 +85,26 @@ parts-of jobs settings k ht hd = elim (ℕ-discrete (levelAt settings k) 0) [
       rw (parts-placed jobs settings k z, bound-placed jobs settings k z) (record {
         makes = parts-make jobs q s a k (levels-apart (length jobs) settings (levelAt settings k));
         taken = held .taken;
+        which = λ e. (held .decided e, held .which);
         bytes = (omega (arith, held .within), omega (arith, held .which));
         long = parts-fit jobs q s a k ht hd;
         zeros = parts-none jobs q s a k;
       })
 ]
+
+-- A job of policy 1 is alone on its level, so that its first bound decides.
+alone-first : (jobs : List Job) (low high : ℕ) (settings : List Setting) → Configuration jobs low high settings → (k : ℕ) → k < length jobs → settingAt settings k .policy ≡ fifo
+    → (boundAt jobs settings k ≡ 0 → ⊥) → partsIn jobs settings k .which ≡ 1
+alone-first jobs low high settings c k l p z = go (shapes jobs low high settings c .shape k l)
+  where
+    go : Shape (length jobs) low high settings k → partsIn jobs settings k .which ≡ 1
+    go (unplaced q e r) = absurd (omega (arith, p, q))
+    go (shared q a b x y i il e d) = absurd (omega (arith, p, q))
+    go (alone q a b x only) =
+        let placed : levelAt settings k ≡ 0 → ⊥ = λ e. omega (arith, a) in
+        ap (λ (x : Parts). x .which) (parts-placed jobs settings k placed)
+        ∙ which-alone jobs (quantaOf settings) (layerOf settings (levelAt settings k)) (aboveOf settings (levelAt settings k)) k
+        (λ i il e. only i il (eqb-true (levelAt settings i) (levelAt settings k) e)) (λ e. z (bound-placed jobs settings k placed ∙ e))
 
 -- ---- all jobs of an accepted call
 
@@ -98,8 +118,8 @@ module _ (jobs : List ℕ) (low high : ℕ) (configuration : List ℕ) (room : �
   abbrev n : ℕ
   n = length list
 
-  abbrev broken : List Parts
-  broken = breakdownOf list settings
+  abbrev each-parts : List Parts
+  each-parts = breakdownOf list settings
 
   abbrev later : Tests
   later = recordTests list low high configuration ++ roomTests (partsSize * n) room
@@ -110,21 +130,26 @@ module _ (jobs : List ℕ) (low high : ℕ) (configuration : List ℕ) (room : �
   judged : Accepts (recordTests list low high configuration)
   judged = accepts-first (recordTests list low high configuration) (roomTests (partsSize * n) room) (accepts-second (callTests jobs low high) later ok)
 
-  pub each-job : (k : ℕ) → k < n → PartsOf (jobAt list k) (boundAt list settings k) (getD broken k noParts)
+  each-job : (k : ℕ) → k < n → PartsOf (jobAt list k) (boundAt list settings k) (getD each-parts k noParts)
   each-job k l =
       let w = longest-at list (accepted-list jobs (accepts-first (blockTests jobs) (rangeTests low high) called)) k l in
       subst (PartsOf (jobAt list k) (boundAt list settings k)) (sym (list-at (partsIn list settings) n k noParts l))
       (parts-of list settings k (omega (arith, w .0)) (omega (arith, w .1)))
 
-  -- What was written is read back.
-  pub held-back : (output : List ℕ) → breakdownIn n (take (partsSize * n) (brokenDown list settings output)) ≡ broken
-  held-back output =
-      let count : length broken ≡ n = list-length (partsIn list settings) n in
-      let long : length (flat partsBytes broken) ≡ partsSize * n = length-flat partsBytes partsSize parts-width broken ∙ ap (λ (m : ℕ). partsSize * m) count in
-      ap (breakdownIn n) (take-at (flat partsBytes broken) (drop (partsSize * length broken) output) (partsSize * n) long)
-      ∙ ap (λ (m : ℕ). breakdownIn m (flat partsBytes broken)) (sym count) ∙ breakdown-back broken
+  each-alone : (k : ℕ) → k < n → settingAt settings k .policy ≡ fifo → (boundAt list settings k ≡ 0 → ⊥) → getD each-parts k noParts .which ≡ 1
+  each-alone k l p z =
+      ap (λ (x : Parts). x .which) (list-at (partsIn list settings) n k noParts l)
+      ∙ alone-first list low high settings (block-configuration jobs low high configuration (accepts-both (callTests jobs low high) (recordTests list low high configuration) called judged)) k l p z
 
-  pub same-bounds : (output : List ℕ) → boundSize * n ≤ length output → boundsOutcome jobs low high configuration output ≡ (given tt, marked list settings output)
+  -- What was written is read back.
+  held-back : (output : List ℕ) → breakdownIn n (take (partsSize * n) (brokenDown list settings output)) ≡ each-parts
+  held-back output =
+      let count : length each-parts ≡ n = list-length (partsIn list settings) n in
+      let long : length (flat partsBytes each-parts) ≡ partsSize * n = length-flat partsBytes partsSize parts-width each-parts ∙ ap (λ (m : ℕ). partsSize * m) count in
+      ap (breakdownIn n) (take-at (flat partsBytes each-parts) (drop (partsSize * length each-parts) output) (partsSize * n) long)
+      ∙ ap (λ (m : ℕ). breakdownIn m (flat partsBytes each-parts)) (sym count) ∙ breakdown-back each-parts
+
+  same-bounds : (output : List ℕ) → boundSize * n ≤ length output → boundsOutcome jobs low high configuration output ≡ (given tt, marked list settings output)
   unfolding boundsOutcome
   same-bounds output h =
       accepts tt (marked list settings output) output (boundsTests jobs low high configuration (length output))
@@ -154,4 +179,5 @@ breakdown-promise jobs low high configuration output got e = record { is = e; he
           each = λ k l.
               subst (λ (p : List Parts). PartsOf (jobAt (jobList jobs) k) (boundAt (jobList jobs) (settingsOf jobs configuration) k) (getD p k noParts)) (sym back)
               (each-job jobs low high configuration (length output) (w .0) k l);
+          alone = λ k l p z. ap (λ (x : List Parts). getD x k noParts .which) back ∙ each-alone jobs low high configuration (length output) (w .0) k l p z;
         }

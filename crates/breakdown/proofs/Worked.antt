@@ -1,6 +1,5 @@
--- Worked breakdowns with the range 1 to 4, to the byte: K2's key, K5 with its bound of 0, E2's example, equal bounds, delayed neighbours,
--- jobs not placed, an instance past 0, a delay of 255, and the entry's refusals with their order: one table, one computed statement.
--- Assumes nothing.
+-- Worked breakdowns to the byte: K2's key, K5 with its bound of 0, E2's example, equal bounds, delayed neighbours, jobs not placed,
+-- instances past 0, a delay of 255, and the entry's refusals from 5 on with their order: one table, one computed statement. Assumes nothing.
 use Prim.Native.Nat.{ℕ}
 use mathlib.Core.Path.{_≡_, refl}
 use mathlib.Core.List.{List, [], _∷_, _++_, map}
@@ -68,6 +67,8 @@ cases =
     -- equal bounds with delays; the second bound with a delayed neighbour, at instance 1
     ∷ breaks (row 1 1 1 3 7 ++ row 2 2 3 6 13) (shared 4 4) (record-of 0 1 1 4 0 1 0) (record-of 0 2 3 2 0 2 0)
     ∷ breaks (row 1 0 1 2 6 ++ row 2 2 2 5 13) (shared 4 4) (record-of 1 2 2 4 0 0 2) (record-of 0 2 2 2 0 2 0)
+    -- the first bound at instance 1 for the first job: two cycles of its 4 ticks of own work
+    ∷ breaks (row 1 0 2 4 8 ++ row 2 0 2 3 6) (shared 3 3) (record-of 1 1 4 6 0 0 4) zeros
     -- one above the other, a job not placed and one below it
     ∷ breaks k2 apart (record-of 0 1 6 0 0 0 0) zeros
     ∷ breaks (row 1 0 6 8 8 ++ row 2 0 5 23 23) apart (record-of 0 1 6 0 0 0 0) (record-of 0 1 5 0 18 0 0)

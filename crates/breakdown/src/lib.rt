@@ -24,7 +24,7 @@ pub fn breakdown(jobs: &[u8], low: u8, high: u8, configuration: &[u8], output: &
         return Verdict::Refused(refusal);
     }
     let settings = read.settings;
-    let broken = parts::table::breakdown_of(table, settings, n);
-    let wrote = block::write_parts(broken, n, &mut *output);
+    let each = parts::table::breakdown_of(table, settings, n);
+    let wrote = block::write_parts(each, n, &mut *output);
     records::refusal::verdict_of(wrote)
 }

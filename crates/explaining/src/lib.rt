@@ -1,6 +1,6 @@
 // What is printed of where the ticks of a configuration's bounds go: for each job the sum in words and a bar drawn to scale.
 ghost use mathlib.Core.Path.{_≡_};
-ghost use Prim.Native.Nat.{_+_, _*_, _/_, _≤_, _<_};
+ghost use Prim.Native.Nat.{_+_, _^_, _≤_, _<_};
 ghost use lib.ListN.{length};
 ghost use Rattle.records.specs.Limits.{mostJobs};
 ghost use Rattle.records.specs.Refusals.{given};
@@ -23,7 +23,7 @@ const COLUMNS: u32 = 50;
 
 // The column up to which a time of such a whole reaches; 0 where the whole is 0.
 fn column_of(time: u64, whole: u64) -> u64
-    requires { ⌜ time < 17179869184 ⌝ }
+    requires { ⌜ time < 2 ^ 34 ⌝ }
     ensures { λ r. ⌜ r ≡ columnOf time whole ⌝ }
 {
     if whole == 0 {
@@ -208,6 +208,6 @@ pub fn explain(
     }
     let settings = read.settings;
     let bounds = marker::table::bounds_of(table, settings, n);
-    let broken = parts::table::breakdown_of(table, settings, n);
-    put_explanation(output, table, settings, broken, bounds, Job::at_most(n))
+    let each = parts::table::breakdown_of(table, settings, n);
+    put_explanation(output, table, settings, each, bounds, Job::at_most(n))
 }

@@ -80,8 +80,8 @@ fn explain(fd: i32) -> bool {
         fd,
         b"ruzhtylen explain [--quanta LOW-HIGH] [--block] LIST CONFIGURATION
 
-Prints two lines per job: the sum that makes its bound, with its deadline; and a bar from
-the start of the run to the deadline, with the bound and the instance that decide.
+Prints two lines per job: the sum that makes its bound, with its deadline; and the same as
+a bar of 50 columns up to the deadline, with the bound and the instance that decide.
 
   # own     the job's own work up to that instance
   = layer   what the other jobs of its level add
@@ -89,9 +89,13 @@ the start of the run to the deadline, with the bound and the instance that decid
   ~ late    the job's delay
   . spare   what is left up to the deadline
 
-The sum takes off the release of that instance; instances count from 0. Bound 1 counts the
-others of the level by their quanta, bound 2 by their work; the lesser one decides. A bar
-has 50 columns, rounded down: it reaches | only where the bound is the deadline.
+The sum takes off the release of that instance: the job's releases in a row without a gap
+are instances 0, 1 and so on. Bound 1 counts the others of the level by their quanta, bound
+2 by their work; the lesser decides, where one is 0 the other, where equal bound 1.
+
+The parts of a bar stand in the order of the sum, not of time, and each bar has a scale of
+its own. Ends are rounded down: a short part may not show, and a bar reaches | only where
+the bound is the deadline.
 
 A job that is not placed, or has no bound up to its deadline, has one line that says so.
 The status is 0 where no bound is 0, else 1.

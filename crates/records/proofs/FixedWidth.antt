@@ -16,7 +16,7 @@ use Rattle.records.specs.Refusals.{Answer, refused, given, number, outco
 use Rattle.records.specs.declared.refusal.Verdict.{Verdict}
 use Rattle.records.specs.declared.refusal.Counted.{Counted}
 use Rattle.records.specs.declared.refusal.Counted.the-variants.{Count, Refused}
-use Rattle.records.specs.Records.{word, wordOf, wordBytes, longOf, longBytes, flat, chunks, table, written, roomTests, writeRecords}
+use Rattle.records.specs.Records.{word, wordOf, wordBytes, longBytes, flat, chunks, table, written, roomTests, writeRecords}
 use Rattle.records.proofs.Outcomes.{accepts, keeps, gives, refuses-alike}
 
 -- ---- lists of records
@@ -252,7 +252,3 @@ words-back xs = chunks-flat 2 wordBytes wordOf word-width (λ x s. word-back x) 
 pub long-width : (x : ℕ) → length (longBytes x) ≡ 4
 unfolding longBytes wordBytes
 long-width x = refl
-
-pub long-back : (x : ℕ) (s : List ℕ) → longOf (longBytes x ++ s) ≡ x
-unfolding longBytes wordBytes longOf wordOf
-long-back x s = omega (arith, word-back (x / 65536), word-back (x % 65536))

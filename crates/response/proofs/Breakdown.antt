@@ -70,7 +70,7 @@ module _ (f : ℕ → ℕ) (period : ℕ) where
   ]
 
   -- A run that closes reaches its response.
-  pub run-reached : (n : ℕ) → 0 < run f period n 0 none .response → Reaches f period n (run f period n 0 none)
+  run-reached : (n : ℕ) → 0 < run f period n 0 none .response → Reaches f period n (run f period n 0 none)
   run-reached n b =
       rw zero-add
       at (run-reaches n 0 none (λ i l. absurd (omega arith)) (record { most = λ i l. absurd (omega arith); reaches = λ p. absurd (omega arith) }) b)
@@ -113,6 +113,7 @@ module _ (jobs : List Job) (q : List ℕ) (s a : Set) (k : ℕ) where
 pub record Held (job : Job) (bound : ℕ) (p : Parts) : Type 0 where
   pub within : p .instance ≤ 63
   pub which : p .which ≤ 2
+  pub decided : (bound ≡ 0 → ⊥) → 1 ≤ p .which
   pub by : bound ≤ job .deadline
   pub taken : p .taken ≡ p .instance * job .period
   pub own : p .own ≤ bound + p .taken
@@ -125,7 +126,7 @@ abbrev pub Fit : Parts → Type 0
 Fit p = (p .own < 2 ^ 32) × (p .share < 2 ^ 32) × (p .above < 2 ^ 32) × (p .delay < 2 ^ 32) × (p .taken < 2 ^ 32)
 
 -- "The first four amounts less the fifth make the bound exactly."
-abbrev pub Makes : ℕ → Parts → Type 0
+abbrev Makes : ℕ → Parts → Type 0
 Makes bound p = p .own + p .share + p .above + p .delay ≡ bound + p .taken
 
 -- No job of the layer is above it.
@@ -145,6 +146,7 @@ module _ (jobs : List Job) (q : List ℕ) (s a : Set) (k : ℕ) where
       record {
         within = omega (arith, bound-reached jobs q s a k b .within);
         which = omega arith;
+        decided = λ z. omega arith;
         by = bound-end jobs q s a k b .2;
         taken = refl;
         own = omega arith;
@@ -182,7 +184,7 @@ module _ (jobs : List Job) (q : List ℕ) (s a : Set) (k : ℕ) where
   abbrev pub second : ℕ
   second = reaching jobs q (only k) (withNeighbours s a k) k
 
-  abbrev pub second-end : ℕ
+  abbrev second-end : ℕ
   second-end = reachingFinish jobs q (only k) (withNeighbours s a k) k
 
   second-total : 0 < secondBound jobs q s a k
@@ -204,6 +206,7 @@ module _ (jobs : List Job) (q : List ℕ) (s a : Set) (k : ℕ) where
       record {
         within = omega (arith, bound-reached jobs q (only k) (withNeighbours s a k) k b .within);
         which = omega arith;
+        decided = λ z. omega arith;
         by = bound-end jobs q (only k) (withNeighbours s a k) k b .2;
         taken = refl;
         own = omega arith;
@@ -246,7 +249,17 @@ module _ (jobs : List Job) (q : List ℕ) (s a : Set) (k : ℕ) where
 
   -- For any layer and set above.
   pub parts-held : Held (jobAt jobs k) (bound jobs q s a k) (parts jobs q s a k)
-  parts-held = parts-by (Held (jobAt jobs k)) (omega arith) first-held second-held
+  parts-held = parts-by (Held (jobAt jobs k)) (record {
+    within = omega arith;
+    which = omega arith;
+    decided = λ z. absurd (z refl);
+    by = omega arith;
+    taken = omega arith;
+    own = omega arith;
+    share = omega arith;
+    above = omega arith;
+    delay = omega arith;
+  }) first-held second-held
 
   -- Each amount has four bytes, of a job whose times have two.
   pub parts-fit : jobAt jobs k .period < 2 ^ 16 → jobAt jobs k .deadline < 2 ^ 16 → Fit (parts jobs q s a k)

@@ -48,6 +48,8 @@ cases =
     ∷ beside (late 1 1 3 7) (late 2 3 6 13) 4 4 0 (makes 0 1 1 4 0 1 0)
     -- the second bound at instance 1: within 6 ticks the neighbour counts twice, its delay with it
     ∷ beside (job 1 2 6) (late 2 2 5 13) 4 4 0 (makes 1 2 2 4 0 0 2)
+    -- the first bound at instance 1: the cycles are those of 4 ticks of own work, two of quantum 3
+    ∷ beside (job 2 4 8) (job 2 3 6) 3 3 0 (makes 1 1 4 6 0 0 4)
     -- the first bound at instance 4; responses 7, 9, 9, 5, and the first of those that reach it
     ∷ under (job 26 70 70) (job 62 100 118) (makes 4 1 310 0 208 0 400)
     ∷ record { jobs = job 4 7 7 ∷ job 1 5 9 ∷ job 2 10 10 ∷ []; quanta = []; layer = 2; above = 5; place = 1; answer = makes 1 1 2 0 12 0 5 }

@@ -24,7 +24,8 @@ abbrev pub partsAt : Job → ℕ → ℕ → ℕ → ℕ → Parts
 partsAt job j which share above =
     record { instance = j; which = which; own = ownWork job j; share = share; above = above; delay = job .delay; taken = j * job .period }
 
--- "The first instance that reaches the bound" that the run of the job at place k gives, in a layer with a set above; and its finish.
+-- The first instance that has the largest response of the run of the job at place k, in a layer with a set above: "the first instance that
+-- reaches the bound"; and its finish.
 abbrev pub reaching : List Job → List ℕ → Set → Set → ℕ → ℕ
 reaching jobs quanta layer above k = largestResponse jobs quanta layer above k .instance
 

@@ -189,7 +189,8 @@ fn answer(word: Word, asked: Asked) -> u8 {
         Word::Explain => explain(asked),
         Word::Loader => loader(asked),
         Word::Block => change_form(asked, true),
-        _ => change_form(asked, false),
+        Word::Text => change_form(asked, false),
+        _ => no_word(),
     }
 }
 

@@ -49,8 +49,8 @@ module _ (c : tie.Start) where
   abbrev tests : List Job → ℕ → ℕ → Tests
   tests list low high = recordTests list low high block
 
-  abbrev broken : List Parts
-  broken = breakdownOf (jobList jobs) (settingsOf jobs block)
+  abbrev each-parts : List Parts
+  each-parts = breakdownOf (jobList jobs) (settingsOf jobs block)
 
   abbrev room : Tests
   room = roomTests (partsSize * length (jobList jobs)) (length output)
@@ -119,12 +119,12 @@ returns-3 c =
     let on = hand-in-on (jobs s) (s .args .low) (s .args .high) [] _ (r .read-call .ensures) _ (told .answer .given .1) (block s) (tests s) _ (h .read-settings .ensures) (room s) tt (new s) (output s)
     _ (t .enum-told2 .given .1) in
     let n = told .answer .given .0 .0 in
-    let count : length (broken s) ≡ length (jobList (jobs s)) = list-length (partsIn (jobList (jobs s)) (settingsOf (jobs s) (block s))) (length (jobList (jobs s))) in
-    let first : take n (b .breakdown-of .result) ≡ broken s =
+    let count : length (each-parts s) ≡ length (jobList (jobs s)) = list-length (partsIn (jobList (jobs s)) (settingsOf (jobs s) (block s))) (length (jobList (jobs s))) in
+    let first : take n (b .breakdown-of .result) ≡ each-parts s =
     ap (take n) (b .breakdown-of .ensures ∙ ap₂ (λ (l : List Job) (x : List Setting). table mostJobs noParts (breakdownOf l x)) (on .0 .list) (on .0 .settings))
-    ∙ take-table mostJobs noParts n (broken s) (count ∙ jobs-counted told) in
+    ∙ take-table mostJobs noParts n (each-parts s) (count ∙ jobs-counted told) in
     breakdown-promise (jobs s) (s .args .low) (s .args .high) (block s) (output s) _
-    (wrote-done partsSize partsBytes (broken s) (output s) (w .write-parts .result) _
+    (wrote-done partsSize partsBytes (each-parts s) (output s) (w .write-parts .result) _
     (w .write-parts .ensures ∙ ap (λ (l : List Parts). writeRecords partsSize partsBytes l (output s)) first) _ (c .verdict-of .ensures)
     ∙ ap (λ (m : ℕ). outcome (roomTests (partsSize * m) (length (output s))) tt (new s) (output s)) count
     ∙ on .1)

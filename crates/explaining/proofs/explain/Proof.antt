@@ -115,8 +115,8 @@ returns-3 : tie.Need-returns-3
 unfolding explainOutcome readSettings
 returns-3 c =
     let most = c .before in
-    let broken = most .before .before in
-    let found = broken .before in
+    let parted = most .before .before in
+    let found = parted .before in
     let t = found .before .before in
     let h = t .before .before in
     let told = h .before .before .before .before in
@@ -132,8 +132,8 @@ returns-3 c =
     let cut : most .at-most .result ≡ n = omega (arith, most .at-most .ensures, knows .few) in
     let table = r .read-call .result .table in
     let settings = h .read-settings .result .settings in
-    let rows = rows-are table settings list set n _ cut size (on .0 .list) (on .0 .settings) _ (found .bounds-of .ensures) _ (broken .breakdown-of .ensures) in
-    let same = text-is table settings list set n _ cut size (on .0 .list) (on .0 .settings) _ (found .bounds-of .ensures) _ (broken .breakdown-of .ensures) in
+    let rows = rows-are table settings list set n _ cut size (on .0 .list) (on .0 .settings) _ (found .bounds-of .ensures) _ (parted .breakdown-of .ensures) in
+    let same = text-is table settings list set n _ cut size (on .0 .list) (on .0 .settings) _ (found .bounds-of .ensures) _ (parted .breakdown-of .ensures) in
     let over = none-over table settings list set n _ cut size (on .0 .list) (on .0 .settings) _ (found .bounds-of .ensures) in
     let wrote = c .put-explanation .ensures in (
       ap₂ (λ (x : Answer (Bool × (ℕ × ℕ))) (y : List ℕ). (x, y))
