@@ -30,7 +30,7 @@ fn layer_share(work: u32, quantum: u8, others: u16) -> u64
     cycles * (others as u64)
 }
 
-// The finish of the instance, so many from the first, whose response is the bound.
+// The finish of the last of the first `count` instances of a job, whose response is the bound.
 fn finish_of(job: Job, count: u32, bound: u16) -> u32
     requires { ⌜ (0 < count) × (count ≤ mostInstances) × (job .delay ≤ bound + (count - 1) * job .period) ⌝ }
     ensures { λ r. ⌜ (r ≡ bound + (count - 1) * job .period - job .delay) × (r ≤ longestTime) ⌝ }
@@ -38,7 +38,7 @@ fn finish_of(job: Job, count: u32, bound: u16) -> u32
     bound as u32 + (count - 1) * (job.period as u32) - job.delay as u32
 }
 
-// The parts at the instance of a job that is so many from the first, with what its layer and the jobs above add.
+// The parts at the last of the first `count` instances of a job, with what its layer and the jobs above add.
 fn parts_at(job: Job, count: u32, which: u8, share: u64, above: u64) -> Parts
     requires { ⌜ (0 < count) × (count ≤ mostInstances) × (share < 2 ^ 32) × (above < 2 ^ 32) ⌝ }
     ensures { λ r. ⌜ r ≡ partsAt job (count - 1) which share above ⌝ }

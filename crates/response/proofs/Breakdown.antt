@@ -1,7 +1,7 @@
 -- The parts of a bound (02, E6): they make it, how large they are, and what they go by. Assumes nothing.
 use mathlib.Core.Path.{_≡_, refl, sym, _∙_, ap, ap₂, fun-ext}
 use mathlib.Core.Bool.{Bool, true, false, cond, not, _&&_, _||_, or-true, false≢true}
-use mathlib.Core.Logic.{_≢_}
+use mathlib.Core.Logic.{_≢_, _⊎_, ⊎-elim}
 use mathlib.Core.List.{List}
 use Prim.Native.Nat.{ℕ, zero, suc, _+_, _-_, _*_, _^_, _≤_, _<_}
 use native.Mathlib.Nat.{le-refl, zero-add, mul-le-mul}
@@ -19,7 +19,7 @@ use Rattle.response.specs.declared.parts.Parts.{Parts}
 use Rattle.response.specs.Breakdown.{noParts, ownWork, partsAt, reaching, reachingFinish, firstParts, secondParts, parts}
 use Rattle.response.proofs.Least.{least-found}
 use Rattle.response.proofs.Runs.{plus-from, plus-some, run-none, run-closed, run-open}
-use Rattle.response.proofs.Lesser.{lesser-either}
+use Rattle.response.proofs.Lesser.{lesser-one}
 use Rattle.response.proofs.Easier.{interference-mono, interference-split, interference-same, others-same, share-alone, only-alone, first-alone, others-take, interference-take}
 
 -- ---- what a run reaches
@@ -228,9 +228,9 @@ module _ (jobs : List Job) (q : List ℕ) (s a : Set) (k : ℕ) where
   unfolding parts
   parts-second z e = rw (ne-eqb (bound jobs q s a k) 0 z, ne-eqb (bound jobs q s a k) (firstBound jobs q s a k) e)
 
-  pub second-decides : bound jobs q s a k ≢ firstBound jobs q s a k → bound jobs q s a k ≡ secondBound jobs q s a k
+  pub one-decides : (bound jobs q s a k ≡ firstBound jobs q s a k) ⊎ (bound jobs q s a k ≡ secondBound jobs q s a k)
   unfolding bound
-  second-decides e = lesser-either (firstBound jobs q s a k) (secondBound jobs q s a k) e
+  one-decides = lesser-one (firstBound jobs q s a k) (secondBound jobs q s a k)
 
   -- What holds of no parts, and of those of either bound, holds of the parts of the bound.
   parts-by : (P : ℕ → Parts → Type 0) → P 0 noParts → (0 < firstBound jobs q s a k → P (firstBound jobs q s a k) (firstParts jobs q s a k))
@@ -239,7 +239,7 @@ module _ (jobs : List Job) (q : List ℕ) (s a : Set) (k : ℕ) where
     | yes z ↦ rw (parts-none z, z) none
     | no z ↦ elim (ℕ-discrete (bound jobs q s a k) (firstBound jobs q s a k)) [
       | yes e ↦ rw (parts-first z e, e) (one (omega arith))
-      | no e ↦ let f = second-decides e in rw (parts-second z e, f) (two (omega arith))
+      | no e ↦ let f = ⊎-elim (λ x. absurd (e x)) (λ x. x) one-decides in rw (parts-second z e, f) (two (omega arith))
     ]
   ]
 

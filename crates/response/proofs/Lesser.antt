@@ -1,7 +1,7 @@
 -- The lesser of two bounds, one that is 0 giving way to the other. Assumes nothing.
 use mathlib.Core.Path.{_≡_, sym, _∙_, ap, ap₂}
 use mathlib.Core.Bool.{Bool, true, false}
-use mathlib.Core.Logic.{_≢_}
+use mathlib.Core.Logic.{_⊎_, inl, inr}
 use Prim.Native.Nat.{ℕ, _<_, min}
 use native.Mathlib.Decide.{ℕ-discrete}
 use native.Mathlib.Omega.{arith}
@@ -33,13 +33,16 @@ module _ (x y : ℕ) where
   ]
 
 -- It is one of the two.
-pub lesser-either : (x y : ℕ) → lesser x y ≢ x → lesser x y ≡ y
-lesser-either x y h = elim (ℕ-discrete x 0) [
-  | yes z ↦ lesser-second x y z
-  | no z ↦ elim (ℕ-discrete y 0) [
-    | yes e ↦ absurd (h (lesser-first x y z e))
-    | no e ↦ omega (arith, lesser-both x y z e)
-  ]
+pub lesser-one : (x y : ℕ) → (lesser x y ≡ x) ⊎ (lesser x y ≡ y)
+lesser-one x y = elim (ℕ-discrete (lesser x y) x) [
+  | yes e ↦ inl e
+  | no h ↦ inr (elim (ℕ-discrete x 0) [
+    | yes z ↦ lesser-second x y z
+    | no z ↦ elim (ℕ-discrete y 0) [
+      | yes e ↦ absurd (h (lesser-first x y z e))
+      | no e ↦ omega (arith, lesser-both x y z e)
+    ]
+  ])
 ]
 
 -- It is 0 only where both are: what serves both keeps serving.

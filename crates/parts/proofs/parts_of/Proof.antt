@@ -1,7 +1,7 @@
 use Prim.Native.Nat.{ℕ}
 use mathlib.Core.Path.{_≡_, refl, sym, _∙_, ap, ap₂}
 use mathlib.Core.Bool.{Bool, cond}
-use mathlib.Core.Logic.{_≢_}
+use mathlib.Core.Logic.{_⊎_, inl, inr, ⊎-elim}
 use mathlib.Core.List.{List}
 use native.Mathlib.Decide.{ℕ-discrete}
 use native.Mathlib.Omega.{arith}
@@ -12,7 +12,7 @@ use Rattle.sets.specs.Sets.{Set, has, single, join}
 use Rattle.records.specs.declared.job.Job.{Job}
 use Rattle.response.specs.Demand.{firstBound, withNeighbours, only, secondBound, lesser, bound}
 use Rattle.response.proofs.Easier.{second-first}
-use Rattle.response.proofs.Breakdown.{parts-none, parts-first, parts-second, second-decides}
+use Rattle.response.proofs.Breakdown.{parts-none, parts-first, parts-second, one-decides}
 use Rattle.finishes.specs.Finishes.{utilisationsOf}
 use Rattle.search.specs.Search.{oneBound}
 use Rattle.search.specs.declared.workload.Workload.{Workload}
@@ -81,8 +81,9 @@ module _ (c : tie.After-lesser) where
   unfolding bound
   is-bound = c .lesser .ensures ∙ ap₂ lesser first second
 
-  not-first : c .lesser .result ≢ c .before .before .run .result → bound jobs quanta s o k ≢ firstBound jobs quanta s o k
-  not-first d e = d (is-bound ∙ e ∙ sym first)
+  -- It is one of the two that were found.
+  one : (c .lesser .result ≡ c .before .before .run .result) ⊎ (c .lesser .result ≡ c .before .second-bound .result)
+  one = ⊎-elim (λ e. inl (is-bound ∙ e ∙ sym first)) (λ e. inr (is-bound ∙ e ∙ sym second)) (one-decides jobs quanta s o k)
 
 returns : tie.Need-returns
 returns c =
@@ -92,24 +93,24 @@ returns c =
 first-parts-requires : tie.Need-first-parts-requires
 first-parts-requires c κs =
     let l = c .before .before in
-    (start l .pre .0, start l .pre .1, omega (arith, c .before .if1 .left), omega (arith, c .if2 .taken, first l))
+    (start l .pre .0, start l .pre .1, omega (arith, c .before .if1 .left), ⊎-elim (λ e. e ∙ first l) (λ e. omega (arith, c .if2 .taken, e, first l)) (one l))
 
 returns-2 : tie.Need-returns-2
 returns-2 c =
     let l = c .before .before .before in
     c .first-parts .ensures
-    ∙ sym (parts-first (jobs l) (quanta l) (s l) (o l) (k l) (λ z. c .before .before .if1 .left (is-bound l ∙ z)) (omega (arith, is-bound l, c .before .if2 .taken, first l)))
+    ∙ sym (parts-first (jobs l) (quanta l) (s l) (o l) (k l) (λ z. c .before .before .if1 .left (is-bound l ∙ z)) (sym (is-bound l) ∙ ⊎-elim (λ e. e ∙ first l) (λ e. omega (arith, c .before .if2 .taken, e, first l)) (one l)))
 
 second-parts-requires : tie.Need-second-parts-requires
 second-parts-requires c κs =
     let l = c .before .before in
-    (start l .pre .0, start l .pre .1, omega (arith, c .before .if1 .left), is-bound l ∙ second-decides (jobs l) (quanta l) (s l) (o l) (k l) (not-first l (c .if2 .left)))
+    (start l .pre .0, start l .pre .1, omega (arith, c .before .if1 .left), ⊎-elim (λ e. omega (arith, c .if2 .left, e, second l)) (λ e. e ∙ second l) (one l))
 
 returns-3 : tie.Need-returns-3
 returns-3 c =
     let l = c .before .before .before in
     c .second-parts .ensures
-    ∙ sym (parts-second (jobs l) (quanta l) (s l) (o l) (k l) (λ z. c .before .before .if1 .left (is-bound l ∙ z)) (not-first l (c .before .if2 .left)))
+    ∙ sym (parts-second (jobs l) (quanta l) (s l) (o l) (k l) (λ z. c .before .before .if1 .left (is-bound l ∙ z)) (λ e. omega (arith, c .before .if2 .left, is-bound l, e, first l)))
 
 pub parts-of-spec : {M : Type 1} → statement M
 parts-of-spec =
