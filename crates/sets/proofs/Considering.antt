@@ -69,6 +69,56 @@ module _ (takeable : ℕ → Bool) where
         count = ap length (first-miss s sets e .1) ∙ ap suc (w .count);
       })
 
+  -- Two lists one after the other: what is taken of the first, and the second where nothing is.
+  pub append-hit : (sets after : List ℕ) → 0 < firstTaken takeable sets
+      → (firstTaken takeable (sets ++ after) ≡ firstTaken takeable sets) × (considered takeable (sets ++ after) ≡ considered takeable sets)
+  unfolding firstTaken
+  append-hit [] after p = absurd (omega arith)
+  append-hit (s ∷ sets) after p = go (takeable s) refl (append-hit sets after)
+    where
+      go : (b : Bool) → takeable s ≡ b
+          → (0 < firstTaken takeable sets → (firstTaken takeable (sets ++ after) ≡ firstTaken takeable sets) × (considered takeable (sets ++ after) ≡ considered takeable sets))
+          → (firstTaken takeable (s ∷ (sets ++ after)) ≡ firstTaken takeable (s ∷ sets)) × (considered takeable (s ∷ (sets ++ after)) ≡ considered takeable (s ∷ sets))
+      go true e ih =
+          let a = first-hit s (sets ++ after) e in
+          let b = first-hit s sets e in
+          (a .0 ∙ sym (b .0), a .1 ∙ sym (b .1))
+      go false e ih =
+          let a = first-miss s (sets ++ after) e in
+          let b = first-miss s sets e in
+          let w = ih (omega (arith, b .0)) in
+          (a .0 ∙ w .0 ∙ sym (b .0), a .1 ∙ ap (λ (l : List ℕ). s ∷ l) (w .1) ∙ sym (b .1))
+
+  pub append-miss : (sets after : List ℕ) → ((s : ℕ) → List·Memᴰ s sets → 0 < s) → firstTaken takeable sets ≡ 0
+      → (firstTaken takeable (sets ++ after) ≡ firstTaken takeable after)
+      × (length (considered takeable (sets ++ after)) ≡ length (considered takeable sets) + length (considered takeable after))
+  unfolding considered
+  append-miss [] after some z = (refl, omega arith)
+  append-miss (s ∷ sets) after some z = go (takeable s) refl (append-miss sets after (λ x t. some x (List·Memᴰ·tail t)))
+    where
+      go : (b : Bool) → takeable s ≡ b
+          → (firstTaken takeable sets ≡ 0
+          → (firstTaken takeable (sets ++ after) ≡ firstTaken takeable after)
+          × (length (considered takeable (sets ++ after)) ≡ length (considered takeable sets) + length (considered takeable after)))
+          → (firstTaken takeable (s ∷ (sets ++ after)) ≡ firstTaken takeable after)
+          × (length (considered takeable (s ∷ (sets ++ after))) ≡ length (considered takeable (s ∷ sets)) + length (considered takeable after))
+      go true e ih = absurd (omega (arith, some s (List·Memᴰ·head refl), first-hit s sets e .0))
+      go false e ih =
+          let a = first-miss s (sets ++ after) e in
+          let b = first-miss s sets e in
+          let w = ih (sym (b .0) ∙ z) in
+          (a .0 ∙ w .0, omega (arith, ap length (a .1), ap length (b .1), w .1))
+
+  -- No more are considered than there are.
+  pub considered-few : (sets : List ℕ) → length (considered takeable sets) ≤ length sets
+  unfolding considered
+  considered-few [] = omega arith
+  considered-few (s ∷ sets) = go (takeable s) refl (considered-few sets)
+    where
+      go : (b : Bool) → takeable s ≡ b → length (considered takeable sets) ≤ length sets → length (considered takeable (s ∷ sets)) ≤ suc (length sets)
+      go true e ih = omega (arith, ap length (first-hit s sets e .1))
+      go false e ih = omega (arith, ap length (first-miss s sets e .1))
+
 -- The set taken lies within the set left.
 pub first-le : (takeable : ℕ → Bool) (left : ℕ) (sequence : List ℕ) → firstTaken takeable (subsets left sequence) ≤ left
 unfolding subsets

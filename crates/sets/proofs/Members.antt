@@ -157,7 +157,7 @@ shifted i l = rw one-mul (single-is i l)
 pub has-single : (i j : ℕ) → i < places → has (single i) j ≡ eqb i j
 has-single i j l = ap (λ (x : ℕ). has x j) (single-is i l) ∙ has-power i j
 
-has-insert : (s i j : ℕ) → i < places → has (insert s i) j ≡ (has s j || eqb i j)
+pub has-insert : (s i j : ℕ) → i < places → has (insert s i) j ≡ (has s j || eqb i j)
 unfolding insert
 has-insert s i j l = has-or j s (single i) ∙ ap (λ (b : Bool). has s j || b) (has-single i j l)
 

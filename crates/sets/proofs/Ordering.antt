@@ -22,7 +22,7 @@ unfolding range
 range-in zero i x l h = absurd (omega arith)
 range-in (suc n) i x l h = elim (ℕ-discrete x i) [ yes e ↦ List·Memᴰ·head e | no e ↦ List·Memᴰ·tail (range-in n (suc i) x (omega arith) (omega arith)) ]
 
-range-out : (n i x : ℕ) → List·Memᴰ x (range i n) → (i ≤ x) × (x < i + n)
+pub range-out : (n i x : ℕ) → List·Memᴰ x (range i n) → (i ≤ x) × (x < i + n)
 unfolding range
 range-out zero i x t = absurd (List·Memᴰ·not-nil t)
 range-out (suc n) i x t = go (range-out n (suc i) x) (List·Memᴰ·cases-cons t)
@@ -52,11 +52,49 @@ module _ {A : Type 0} (test : A → Bool) where
       go true g ih t = ⊎-elim (λ e. (List·Memᴰ·head e, ap test e ∙ g)) (λ u. (List·Memᴰ·tail (ih u .0), ih u .1)) (List·Memᴰ·cases-cons t)
       go false g ih t = (List·Memᴰ·tail (ih t .0), ih t .1)
 
-size-in : (n m s : ℕ) → 0 < s → s < 2 ^ n → size s ≡ m → List·Memᴰ s (ofSize n m)
+  -- The members of two lists together that pass a test, and those of a list of which none does.
+  pub keep-append : (xs ys : List A) → keep test (xs ++ ys) ≡ keep test xs ++ keep test ys
+  unfolding keep
+  keep-append [] ys = refl
+  keep-append (x ∷ xs) ys = go (test x) (keep-append xs ys)
+    where
+      go : (b : Bool) → keep test (xs ++ ys) ≡ keep test xs ++ keep test ys
+          → cond b (x ∷ keep test (xs ++ ys)) (keep test (xs ++ ys)) ≡ cond b (x ∷ keep test xs) (keep test xs) ++ keep test ys
+      go true ih = ap (λ (zs : List A). x ∷ zs) ih
+      go false ih = ih
+
+  pub keep-none : (xs : List A) → ((x : A) → List·Memᴰ x xs → test x ≡ false) → keep test xs ≡ []
+  unfolding keep
+  keep-none [] h = refl
+  keep-none (x ∷ xs) h = rw (h x (List·Memᴰ·head refl)) (keep-none xs (λ y t. h y (List·Memᴰ·tail t)))
+
+  -- The members that pass two tests; no more are kept than there are.
+  pub keep-twice : (other : A → Bool) (xs : List A) → ((x : A) → test x ≡ true → other x ≡ true) → keep test (keep other xs) ≡ keep test xs
+  unfolding keep
+  keep-twice other [] h = refl
+  keep-twice other (x ∷ xs) h = go (other x) (test x) refl refl (keep-twice other xs h)
+    where
+      go : (a b : Bool) → other x ≡ a → test x ≡ b → keep test (keep other xs) ≡ keep test xs
+          → keep test (cond a (x ∷ keep other xs) (keep other xs)) ≡ cond b (x ∷ keep test xs) (keep test xs)
+      go true true e f ih = rw f (ap (λ (zs : List A). x ∷ zs) ih)
+      go true false e f ih = rw f ih
+      go false true e f ih = absurd (false≢true (sym e ∙ h x f))
+      go false false e f ih = ih
+
+  pub keep-few : (xs : List A) → length (keep test xs) ≤ length xs
+  unfolding keep
+  keep-few [] = omega arith
+  keep-few (x ∷ xs) = go (test x) (keep-few xs)
+    where
+      go : (b : Bool) → length (keep test xs) ≤ length xs → length (cond b (x ∷ keep test xs) (keep test xs)) ≤ suc (length xs)
+      go true ih = omega arith
+      go false ih = omega arith
+
+pub size-in : (n m s : ℕ) → 0 < s → s < 2 ^ n → size s ≡ m → List·Memᴰ s (ofSize n m)
 unfolding ofSize
 size-in n m s p b e = keep-in (λ x. eqb (size x) m) (range 1 (2 ^ n - 1)) s (range-in (2 ^ n - 1) 1 s p (omega (arith, pow-pos n))) (eq-eqb (size s) m e)
 
-size-out : (n m s : ℕ) → List·Memᴰ s (ofSize n m) → (0 < s) × (s < 2 ^ n) × (size s ≡ m)
+pub size-out : (n m s : ℕ) → List·Memᴰ s (ofSize n m) → (0 < s) × (s < 2 ^ n) × (size s ≡ m)
 unfolding ofSize
 size-out n m s t =
     let w = keep-out (λ x. eqb (size x) m) (range 1 (2 ^ n - 1)) s t in
@@ -90,12 +128,12 @@ order-out n s t = let w = sizes-out n n 1 s t in (w .0, w .1)
 
 -- ---- entries and their places
 
-member-at : (xs : List ℕ) (p : ℕ) → p < length xs → List·Memᴰ (getD xs p 0) xs
+pub member-at : (xs : List ℕ) (p : ℕ) → p < length xs → List·Memᴰ (getD xs p 0) xs
 member-at [] p l = absurd (omega arith)
 member-at (x ∷ xs) zero l = List·Memᴰ·head refl
 member-at (x ∷ xs) (suc p) l = List·Memᴰ·tail (member-at xs p (omega arith))
 
-place-of : (xs : List ℕ) (x : ℕ) → List·Memᴰ x xs → (p : ℕ) × (p < length xs) × (getD xs p 0 ≡ x)
+pub place-of : (xs : List ℕ) (x : ℕ) → List·Memᴰ x xs → (p : ℕ) × (p < length xs) × (getD xs p 0 ≡ x)
 place-of [] x t = absurd (List·Memᴰ·not-nil t)
 place-of (y ∷ ys) x t = go (place-of ys x) (List·Memᴰ·cases-cons t)
   where
@@ -115,21 +153,21 @@ module _ (R : ℕ → ℕ → Type 0) where
       go true ih = (λ y t. o .0 y (keep-out test xs y t .0), ih)
       go false ih = ih
 
-  append-pairwise : (xs ys : List ℕ) → Pairwise R xs → Pairwise R ys → ((x y : ℕ) → List·Memᴰ x xs → List·Memᴰ y ys → R x y) → Pairwise R (xs ++ ys)
+  pub append-pairwise : (xs ys : List ℕ) → Pairwise R xs → Pairwise R ys → ((x y : ℕ) → List·Memᴰ x xs → List·Memᴰ y ys → R x y) → Pairwise R (xs ++ ys)
   append-pairwise [] ys o u h = u
   append-pairwise (x ∷ xs) ys o u h = (
     λ y t. ⊎-elim (λ a. o .0 y a) (λ b. h x y (List·Memᴰ·head refl) b) (List·Memᴰ·append-cases xs t),
     append-pairwise xs ys (o .1) u (λ a b s t. h a b (List·Memᴰ·tail s) t),
   )
 
-  pairwise-at : (xs : List ℕ) → Pairwise R xs → (p q : ℕ) → p < q → q < length xs → R (getD xs p 0) (getD xs q 0)
+  pub pairwise-at : (xs : List ℕ) → Pairwise R xs → (p q : ℕ) → p < q → q < length xs → R (getD xs p 0) (getD xs q 0)
   pairwise-at [] o p q l h = absurd (omega arith)
   pairwise-at (x ∷ xs) o p zero l h = absurd (omega arith)
   pairwise-at (x ∷ xs) o zero (suc q) l h = o .0 (getD xs q 0) (member-at xs q (omega arith))
   pairwise-at (x ∷ xs) o (suc p) (suc q) l h = pairwise-at xs (o .1) p q (omega arith) (omega arith)
 
 -- What holds of each entry may be used.
-pairwise-among : (R Q : ℕ → ℕ → Type 0) (xs : List ℕ) → ((x y : ℕ) → List·Memᴰ x xs → List·Memᴰ y xs → R x y → Q x y) → Pairwise R xs → Pairwise Q xs
+pub pairwise-among : (R Q : ℕ → ℕ → Type 0) (xs : List ℕ) → ((x y : ℕ) → List·Memᴰ x xs → List·Memᴰ y xs → R x y → Q x y) → Pairwise R xs → Pairwise Q xs
 pairwise-among R Q [] h o = tt
 pairwise-among R Q (x ∷ xs) h o = (
   λ y t. h x y (List·Memᴰ·head refl) (List·Memᴰ·tail t) (o .0 y t),
@@ -141,7 +179,7 @@ record Before (s t : ℕ) : Type 0 where
   pub sizes : size s ≤ size t
   pub numbers : size s ≡ size t → s < t
 
-range-pairwise : (n i : ℕ) → Pairwise _<_ (range i n)
+pub range-pairwise : (n i : ℕ) → Pairwise _<_ (range i n)
 unfolding range
 range-pairwise zero i = tt
 range-pairwise (suc n) i = (λ y t. range-out n (suc i) y t .0, range-pairwise n (suc i))
