@@ -1,0 +1,3 @@
+pub mod ByPeriods
+pub mod Sums
+pub mod Subsets
