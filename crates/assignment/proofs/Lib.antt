@@ -7,6 +7,7 @@ pub mod Plays
 pub mod Placed
 pub mod Planned
 pub mod AnyPlay
+pub mod BothOrders
 pub mod Settling
 pub mod StoredKeys
 pub mod OldKeys

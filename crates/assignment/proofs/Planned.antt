@@ -21,10 +21,12 @@ use Rattle.sets.specs.Order.{BySize, order}
 use Rattle.sets.proofs.Places.{list-at, list-length, every-at, every-of, fails-at}
 use Rattle.sets.proofs.Members.{has-rest, has-full, has-some, has-none}
 use Rattle.sets.proofs.Parts.{rest-lt, size-full}
-use Rattle.sets.proofs.Ordering.{order-in, order-out, by-size}
+use Rattle.sets.proofs.Ordering.{order-in, order-out}
 use Rattle.sets.proofs.Considering.{jobs-ceiling}
 use Rattle.records.specs.Jobs.{jobAt}
 use Rattle.records.specs.declared.job.Job.{Job}
+use Rattle.periods.specs.ByPeriods.{total, periodAt, byPeriods}
+use Rattle.periods.proofs.Ruling.{by-in, by-out, by-size}
 use Rattle.configuration.specs.declared.setting.Setting.{Setting}
 use Rattle.configuration.specs.Settings.{blankSetting, settingAt, levelAt}
 use Rattle.configuration.specs.Configuration.{Configuration, isPlaced, full}
@@ -255,20 +257,33 @@ module _
           ceiling = jobs-ceiling (λ left s. isFound (find left s)) sequence B n few;
         }
 
--- ---- the planner's rule of 01
+-- ---- the two orders
 
-order-all : AllSets order
+-- 01's.
+pub number-all : AllSets order
 unfolding order
-order-all = record { only = order-out places; each = order-in places }
+number-all = record { only = order-out places; each = order-in places }
+
+-- E7's.
+module _ (jobs : List Job) where
+  pub periods-all : AllSets (byPeriods jobs)
+  unfolding byPeriods
+  periods-all = record { only = by-out (total (periodAt jobs)) places; each = by-in (total (periodAt jobs)) places }
+
+  pub periods-by-size : BySize places (byPeriods jobs)
+  unfolding byPeriods
+  periods-by-size = by-size (total (periodAt jobs)) places
+
+-- ---- the planner's rule
 
 -- Demand 3 of the planner's rule.
 pub plan-guaranteed : (jobs : List Job) → Costs jobs → length jobs ≤ places → (low high : ℕ) → 0 < low → low ≤ high → Guarantee jobs low high (plan jobs low high)
-unfolding plan order
+unfolding plan
 plan-guaranteed jobs costs few low high lp lh =
-    guaranteed jobs costs low high (Permitted (length jobs) low high) (quantaFor jobs low high) (per-job jobs costs low high lp lh) few order order-all
-    (Configuration jobs low high) (layers-permitted jobs low high) (configuration jobs low high _) (by-size places)
+    guaranteed jobs costs low high (Permitted (length jobs) low high) (quantaFor jobs low high) (per-job jobs costs low high lp lh) few (byPeriods jobs) (periods-all jobs)
+    (Configuration jobs low high) (layers-permitted jobs low high) (configuration jobs low high _) (periods-by-size jobs)
 
 -- Its placed set is one of the list's jobs.
 pub placed-less : (jobs : List Job) → length jobs ≤ places → (low high : ℕ) → plan jobs low high .placed < 2 ^ length jobs
 unfolding plan start
-placed-less jobs few low high = rest-lt (length jobs) (firstJobs (length jobs)) (planFrom jobs (quantaFor jobs low high) order (length jobs) (start jobs) .left) (start-less jobs few)
+placed-less jobs few low high = rest-lt (length jobs) (firstJobs (length jobs)) (planFrom jobs (quantaFor jobs low high) (byPeriods jobs) (length jobs) (start jobs) .left) (start-less jobs few)

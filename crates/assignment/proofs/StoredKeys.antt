@@ -1,5 +1,5 @@
--- The second bounds (E2) leave the planner's answers as they are: a job's second bound in a set is the bound that it has alone with the
--- rest above, and sets of one come first. Assumes nothing.
+-- The second bounds (E2) leave the planner's answers as they are, in whatever order by size sets are tried: a job's second bound in a set is
+-- the bound that it has alone with the rest above, and sets of one come first. Assumes nothing.
 use Prim.Native.Nat.{ℕ, zero, suc, _+_, _^_, _≤_, _<_}
 use mathlib.Core.Path.{_≡_, refl, sym, _∙_, ap, ap₂, fun-ext}
 use mathlib.Core.Bool.{Bool, true, false, cond, not, _&&_, _||_, and-eq-true-iff, false≢true}
@@ -15,21 +15,22 @@ use lib.Pow.{pow-lt}
 use borrow.Author.Tests.{eq-eqb, ne-eqb, eqb-true}
 use Rattle.sets.specs.Places.{every}
 use Rattle.sets.specs.Sets.{places, has, single, rest, remove, within, size, firstJobs, but, Alone}
-use Rattle.sets.specs.Order.{order, subsets, firstTaken, considered, consideredCount, Pairwise}
+use Rattle.sets.specs.Order.{subsets, firstTaken, considered, consideredCount, Pairwise, BySize}
 use Rattle.sets.proofs.Places.{every-same, list-same}
 use Rattle.sets.proofs.Members.{has-rest, has-single, has-others, has-pos, single-is}
 use Rattle.sets.proofs.Parts.{within-has, has-within, within-le, rest-lt, size-pos, size-one, size-rest}
 use Rattle.sets.proofs.LowestMember.{size-remove}
-use Rattle.sets.proofs.Ordering.{keep-in, keep-out, keep-pairwise, order-in, order-out, by-size}
+use Rattle.sets.proofs.Ordering.{keep-in, keep-out, keep-pairwise}
 use Rattle.sets.proofs.Considering.{first-hit, first-miss, Tried, Took, tried-or-took, considered-none, considered-stops, considered-goes}
 use Rattle.records.specs.declared.job.Job.{Job}
+use Rattle.periods.specs.ByPeriods.{byPeriods}
 use Rattle.response.specs.Demand.{firstBound, withNeighbours, secondBound, bound}
 use Rattle.response.proofs.Easier.{bound-alone, first-alone, second-alone, second-none}
-use Rattle.assignment.specs.Plan.{smallest, quantumRanges, servesBy, quantaFor, quantaBy, isFound, quantaIn, Stage, place, placeBy, chosen, planFrom, planFromBy, start, planWith, plan}
+use Rattle.assignment.specs.Plan.{smallest, quantumRanges, servesBy, quantaFor, quantaBy, isFound, quantaIn, Stage, place, placeBy, chosen, planFrom, planFromBy, start, planOver, planBy, planWith, plan}
 use Rattle.assignment.proofs.Serving.{Costs}
 use Rattle.assignment.proofs.Taking.{Of, served-drop, per-job}
-use Rattle.assignment.proofs.Plays.{plan-stops, plan-goes}
-use Rattle.assignment.proofs.Planned.{start-less}
+use Rattle.assignment.proofs.Plays.{AllSets, plan-stops, plan-goes}
+use Rattle.assignment.proofs.Planned.{start-less, periods-all, periods-by-size}
 
 -- ---- two tests that differ only after a smaller set that is taken
 
@@ -151,7 +152,7 @@ module _ (jobs : List Job) (costs : Costs jobs) (few : length jobs ≤ places) w
       ∙ bound-alone jobs k q′ q′ (has (single k)) (has (single k)) (withNeighbours (has s) (has (rest r s)) k) (has (rest r (single k)))
       (single-alone k l) (single-alone k l) (rest-with r s k o e)
 
-  module _ (low high : ℕ) (lp : 0 < low) (lh : low ≤ high) where
+  module _ (low high : ℕ) (lp : 0 < low) (lh : low ≤ high) (sequence : List ℕ) (A : AllSets sequence) (B : BySize places sequence) where
     abbrev find : ℕ → ℕ → Option (List ℕ)
     find = quantaFor jobs low high
 
@@ -159,7 +160,7 @@ module _ (jobs : List Job) (costs : Costs jobs) (few : length jobs ≤ places) w
     findFirst = quantaBy (firstBound jobs) n low high
 
     abbrev taken : ℕ → ℕ
-    taken = chosen find order
+    taken = chosen find sequence
 
     -- A job that cannot be taken alone has no bound alone.
     not-alone : (r k : ℕ) (q : List ℕ) → k < n → has r k ≡ true → find r (single k) ≡ none → bound jobs q (has (single k)) (has (rest r (single k))) k ≡ 0
@@ -196,27 +197,27 @@ module _ (jobs : List Job) (costs : Costs jobs) (few : length jobs ≤ places) w
 
     module _ (r : ℕ) (rl : r < 2 ^ n) where
       abbrev tried : List ℕ
-      tried = subsets r order
+      tried = subsets r sequence
 
       abbrev test : ℕ → Bool
       test s = isFound (find r s)
 
       rising : Rising tried
-      unfolding subsets order
-      rising = keep-pairwise _ (λ s. within s r) order (by-size places .rising)
+      unfolding subsets
+      rising = keep-pairwise _ (λ s. within s r) sequence (B .rising)
 
       tried-of : (s : ℕ) → List·Memᴰ s tried → Of n r s × (0 < s)
-      unfolding subsets order
+      unfolding subsets
       tried-of s m =
-          let w = keep-out (λ s. within s r) order s m in
-          ((omega (arith, within-le s r (w .1)), λ i il x. within-has s r (w .1) i x), order-out places s (w .0) .0)
+          let w = keep-out (λ s. within s r) sequence s m in
+          ((omega (arith, within-le s r (w .1)), λ i il x. within-has s r (w .1) i x), A .only s (w .0) .0)
 
       single-in : (k : ℕ) → k < n → has r k ≡ true → List·Memᴰ (single k) tried
-      unfolding subsets order
+      unfolding subsets
       single-in k l e =
           let s = single k in
-          keep-in (λ s. within s r) order s
-          (order-in places s (has-pos s k (single-own k (omega (arith, few)))) (single-lt places k (omega (arith, few)) (le-refl places)))
+          keep-in (λ s. within s r) sequence s
+          (A .each s (has-pos s k (single-own k (omega (arith, few)))) (single-lt places k (omega (arith, few)) (le-refl places)))
           (has-within n s r (single-lt n k l few) (single-of r k l e .1))
 
       -- Both find the same for a set, or a job of it can be taken alone.
@@ -239,7 +240,7 @@ module _ (jobs : List Job) (costs : Costs jobs) (few : length jobs ≤ places) w
           w : Of n r s × (0 < s)
           w = tried-of s m
 
-      same-taken : (taken r ≡ chosen findFirst order r) × (considered test tried ≡ considered (λ s. isFound (findFirst r s)) tried)
+      same-taken : (taken r ≡ chosen findFirst sequence r) × (considered test tried ≡ considered (λ s. isFound (findFirst r s)) tried)
       same-taken = agree test (λ s. isFound (findFirst r s)) tried rising (λ s m. ⊎-elim (λ e. inl (ap isFound e)) inr (either s m))
 
       found-taken : 0 < taken r → find r (taken r) ≡ findFirst r (taken r)
@@ -286,41 +287,46 @@ module _ (jobs : List Job) (costs : Costs jobs) (few : length jobs ≤ places) w
           let placed = place jobs level own q stage in
           ap (λ (bounds : List ℕ). record { left = placed .left; settings = placed .settings; bounds = bounds }) (list-same _ _ n (λ k l. same-bound k l (has own k) refl))
 
-    same-stages : (level : ℕ) (stage : Stage) → stage .left < 2 ^ n → planFrom jobs find order level stage ≡ planFromBy (firstBound jobs) jobs findFirst order level stage
+    same-stages : (level : ℕ) (stage : Stage) → stage .left < 2 ^ n → planFrom jobs find sequence level stage ≡ planFromBy (firstBound jobs) jobs findFirst sequence level stage
     unfolding planFromBy placeBy
     same-stages zero stage b = refl
     same-stages (suc level) stage b = elim (ℕ-discrete (taken (stage .left)) 0) [
       | yes z ↦
-          plan-stops (bound jobs) jobs find order level stage z
-          ∙ sym (plan-stops (firstBound jobs) jobs findFirst order level stage (sym (same-taken (stage .left) b .0) ∙ z))
+          plan-stops (bound jobs) jobs find sequence level stage z
+          ∙ sym (plan-stops (firstBound jobs) jobs findFirst sequence level stage (sym (same-taken (stage .left) b .0) ∙ z))
       | no z ↦
           let r = stage .left in
           let s = taken r in
           let p : 0 < s = omega arith in
-          plan-goes (bound jobs) jobs find order level stage s refl p
-          ∙ ap (λ (o : Option (List ℕ)). planFrom jobs find order level (place jobs (suc level) s (quantaIn o) stage)) (found-taken r b p)
-          ∙ ap (planFrom jobs find order level) (same-placed (suc level) stage b (quantaIn (findFirst r s)))
+          plan-goes (bound jobs) jobs find sequence level stage s refl p
+          ∙ ap (λ (o : Option (List ℕ)). planFrom jobs find sequence level (place jobs (suc level) s (quantaIn o) stage)) (found-taken r b p)
+          ∙ ap (planFrom jobs find sequence level) (same-placed (suc level) stage b (quantaIn (findFirst r s)))
           ∙ same-stages level (placeBy (firstBound jobs) jobs (suc level) s (quantaIn (findFirst r s)) stage) (rest-lt n r s b)
-          ∙ sym (plan-goes (firstBound jobs) jobs findFirst order level stage s (sym (same-taken r b .0)) p)
+          ∙ sym (plan-goes (firstBound jobs) jobs findFirst sequence level stage s (sym (same-taken r b .0)) p)
     ]
 
     same-count : (levels r : ℕ) → r < 2 ^ n
-        → consideredCount (λ left s. isFound (find left s)) order levels r ≡ consideredCount (λ left s. isFound (findFirst left s)) order levels r
-    same-count zero r b = considered-none _ order r ∙ sym (considered-none _ order r)
+        → consideredCount (λ left s. isFound (find left s)) sequence levels r ≡ consideredCount (λ left s. isFound (findFirst left s)) sequence levels r
+    same-count zero r b = considered-none _ sequence r ∙ sym (considered-none _ sequence r)
     same-count (suc levels) r b = elim (ℕ-discrete (taken r) 0) [
       | yes z ↦
-          considered-stops _ order levels r z ∙ ap length (same-taken r b .1)
-          ∙ sym (considered-stops _ order levels r (sym (same-taken r b .0) ∙ z))
+          considered-stops _ sequence levels r z ∙ ap length (same-taken r b .1)
+          ∙ sym (considered-stops _ sequence levels r (sym (same-taken r b .0) ∙ z))
       | no z ↦
           let p : 0 < taken r = omega arith in
-          considered-goes _ order levels r (taken r) refl p
+          considered-goes _ sequence levels r (taken r) refl p
           ∙ ap₂ (λ (x y : ℕ). x + y) (ap length (same-taken r b .1)) (same-count levels (rest r (taken r)) (rest-lt n r (taken r) b))
-          ∙ sym (considered-goes _ order levels r (taken r) (sym (same-taken r b .0)) p)
+          ∙ sym (considered-goes _ sequence levels r (taken r) (sym (same-taken r b .0)) p)
     ]
 
-    -- "The planner's answers therefore stay": the plan is the one by first bounds alone.
-    pub keys-stay : plan jobs low high ≡ planWith (firstBound jobs) jobs low high
-    unfolding plan start
-    keys-stay =
+    -- The plan by both bounds is the one by first bounds alone.
+    pub same-plan : planBy jobs find sequence ≡ planOver (firstBound jobs) jobs findFirst sequence
+    unfolding start
+    same-plan =
         ap₂ (λ (end : Stage) (count : ℕ). record { placed = rest (firstJobs n) (end .left); considered = count; settings = end .settings; bounds = end .bounds })
         (same-stages n (start jobs) (start-less jobs few)) (same-count n (firstJobs n) (start-less jobs few))
+
+  -- "The planner's answers therefore stay."
+  pub keys-stay : (low high : ℕ) → 0 < low → low ≤ high → plan jobs low high ≡ planWith (firstBound jobs) jobs low high
+  unfolding plan
+  keys-stay low high lp lh = same-plan low high lp lh (byPeriods jobs) (periods-all jobs) (periods-by-size jobs)

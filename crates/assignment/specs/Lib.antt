@@ -3,3 +3,4 @@ pub mod Plan
 pub mod Guarantee
 pub mod Layers
 pub mod Keys
+pub mod WorkedLists

@@ -1,5 +1,5 @@
--- The planner's rule (01, "The planner's answer"), after Audsley-RR-FPP* of source document 000. The response-time test, the order of
--- the sets and the search for quanta are parameters. Assumes nothing.
+-- The planner's rule (01, "The planner's answer"), after Audsley-RR-FPP* of source document 000, with the order of the sets that 02's E7
+-- gives. The response-time test, the order of the sets and the search for quanta are parameters. Assumes nothing.
 use Prim.Native.Nat.{ℕ, zero, suc, _-_}
 use mathlib.Core.Bool.{Bool, true, false, cond, not, _||_}
 use mathlib.Core.List.{List, [], _∷_}
@@ -11,6 +11,7 @@ use Rattle.sets.specs.Sets.{Set, has, rest, size, firstJobs}
 use Rattle.sets.specs.Order.{order, subsets, firstTaken, consideredCount}
 use Rattle.records.specs.Jobs.{jobAt}
 use Rattle.records.specs.declared.job.Job.{Job}
+use Rattle.periods.specs.ByPeriods.{byPeriods}
 use Rattle.configuration.specs.declared.setting.Setting.{Setting}
 use Rattle.configuration.specs.Settings.{notPlaced, fifo, roundRobin, settingAt}
 use Rattle.response.specs.Demand.{ResponseTest, bound}
@@ -137,10 +138,14 @@ planOver test jobs find sequence =
 abbrev pub planBy : List Job → (ℕ → ℕ → Option (List ℕ)) → List ℕ → Plan
 planBy jobs = planOver (bound jobs) jobs
 
--- The plan of a list and a range by a test.
+-- The plan of a list and a range by a test: "sets go by size, then by larger sum of periods, then by smaller set number".
 abbrev pub planWith : ResponseTest → List Job → ℕ → ℕ → Plan
-planWith test jobs low high = planOver test jobs (quantaBy test (length jobs) low high) order
+planWith test jobs low high = planOver test jobs (quantaBy test (length jobs) low high) (byPeriods jobs)
 
 -- The plan of a list and a range.
 unfoldable pub plan : List Job → ℕ → ℕ → Plan
 plan jobs low high = planWith (bound jobs) jobs low high
+
+-- The plan by 01's order: "among sets of one size the smaller number is first".
+unfoldable pub planByNumber : List Job → ℕ → ℕ → Plan
+planByNumber jobs low high = planBy jobs (quantaFor jobs low high) order
