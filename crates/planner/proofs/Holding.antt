@@ -36,7 +36,7 @@ use Rattle.assignment.specs.Guarantee.{Guarantee}
 use Rattle.assignment.proofs.Planned.{placed-less}
 use Rattle.planner.specs.Plans.{Outcome, outputTests, values, writtenBy, planTests, planOutcome, planHeld, AllPlaced, Held, HeldIn, PlanHeld, Promise}
 use Rattle.planner.proofs.Answering.{settings-length, bounds-length}
-use Rattle.planner.proofs.Promising.{call-guarantee}
+use Rattle.planner.proofs.Promising.{call-guarantee, call-orders}
 
 -- The blocks of the plan of an accepted call.
 module _ (jobs : List ℕ) (low high : ℕ) (ok : Accepts (callTests jobs low high)) where
@@ -133,6 +133,7 @@ module _ (jobs : List ℕ) (low high : ℕ) (ok : Accepts (callTests jobs low hi
     again = held-again;
     passes = held-passes;
     guarantee = subst (Guarantee list low high) (sym held-is) G;
+    orders = call-orders jobs low high ok;
   }
 
 -- A call of the entry that is answered.

@@ -1,5 +1,6 @@
 pub mod Asked
 pub mod Progressing
+pub mod Choosing
 pub mod LevelByLevel
 pub mod Answering
 pub mod Promising

@@ -17,9 +17,10 @@ use Rattle.records.proofs.Outcomes.{accepts-first, accepts-second, gives}
 use Rattle.records.proofs.JobTests.{accepted-take}
 use Rattle.records.proofs.Reading.{accepted-list, jobs-most, cost-at}
 use Rattle.records.proofs.Asking.{call-accepts}
-use Rattle.assignment.specs.Plan.{Plan, plan}
+use Rattle.assignment.specs.Plan.{Plan, plan, planByNumber}
 use Rattle.assignment.specs.Guarantee.{Guarantee}
 use Rattle.assignment.proofs.Planned.{plan-guaranteed}
+use Rattle.assignment.proofs.BothOrders.{both-orders}
 use Rattle.planner.specs.Questions.{Sound}
 use Rattle.planner.specs.Plans.{TablePromise}
 
@@ -32,6 +33,13 @@ pub call-guarantee : (jobs : List ℕ) (low high : ℕ) → Accepts (callTests j
 call-guarantee jobs low high ok =
     let asked = call-accepts jobs low high ok in
     accepted-guarantee (jobList jobs) (accepted-list jobs (asked .0)) low high (asked .1)
+
+-- Both orders of the sets place the same jobs.
+pub call-orders : (jobs : List ℕ) (low high : ℕ) → Accepts (callTests jobs low high) → plan (jobList jobs) low high .placed ≡ planByNumber (jobList jobs) low high .placed
+call-orders jobs low high ok =
+    let asked = call-accepts jobs low high ok in
+    let list = accepted-list jobs (asked .0) in
+    both-orders (jobList jobs) (λ k l. cost-at (jobList jobs) list k l) (jobs-most (jobList jobs) list) low high (leb-true 1 low (asked .1 .0)) (leb-true low high (asked .1 .1 .0))
 
 -- What an accepted table of n jobs and a range come to.
 module _ (jobs : List Job) (n : ℕ) (range : Range) (eight : length jobs ≡ mostJobs) (ok : Accepts (questionTests n jobs range)) where

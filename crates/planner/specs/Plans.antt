@@ -16,7 +16,7 @@ use Rattle.records.specs.declared.range.Range.{Range}
 use Rattle.configuration.specs.Settings.{settingSize, settingBytes, settingTable}
 use Rattle.configuration.specs.Blocks.{settingsOf, readConfiguration}
 use Rattle.marker.specs.Marks.{boundSize, boundsIn, boundsOutcome, markOutcome}
-use Rattle.assignment.specs.Plan.{Plan, plan}
+use Rattle.assignment.specs.Plan.{Plan, plan, planByNumber}
 use Rattle.assignment.specs.Guarantee.{Guarantee}
 use Rattle.planner.specs.declared.PlanAnswer.{PlanAnswer}
 use Rattle.planner.specs.declared.PlanAnswer.the-variants.{Planned, Refused}
@@ -102,6 +102,8 @@ pub record Held (jobs : List ℕ) (low high : ℕ) (told : ℕ × ℕ) (configur
       → (markOutcome jobs low high configuration output .0 ≡ given true) ↔ AllPlaced (jobCount jobs) (told .0)
   -- Demand 3.
   pub guarantee : Guarantee (jobList jobs) low high (planHeld jobs told configuration bounds)
+  -- E7: "Which set of jobs ends up placed is the same under both orders", the order by periods and 01's.
+  pub orders : told .0 ≡ planByNumber (jobList jobs) low high .placed
 
 -- The blocks of a plan, and those that outputs begin with.
 abbrev pub HeldIn : List ℕ → ℕ → ℕ → ℕ × ℕ → List ℕ × List ℕ → Type 0

@@ -10,6 +10,9 @@ use Rattle.sets.specs.Order.{subsets, considered, consideredCount}
 use Rattle.records.specs.Limits.{mostJobs}
 use Rattle.records.specs.Records.{table}
 use Rattle.records.specs.Jobs.{jobAt}
+use Rattle.periods.specs.ByPeriods.{periodAt}
+use Rattle.periods.specs.Sums.{SumsOf}
+use Rattle.periods.specs.Subsets.{weightIn, heaviestFirst}
 use Rattle.configuration.specs.declared.setting.Setting.{Setting}
 use Rattle.configuration.specs.Settings.{settingAt, settingTable}
 use Rattle.response.specs.Demand.{bound}
@@ -33,6 +36,12 @@ pub record Chosen (question : Question) (sequence : List ℕ) (left : ℕ) (r : 
   pub quanta : 0 < r .set → finds question left (r .set) ≡ some (take (question .n) (r .quanta))
   pub count : r .considered ≡ length (considered (takeable question left) (subsets left sequence))
   pub few : r .considered ≤ length sequence
+
+-- What a level's search is given of the order of the sets: the sums of periods, and the sets of one job in their order.
+pub record Sorted (question : Question) (sums singles : List ℕ) : Type 0 where
+  pub total : SumsOf (periodAt (question .workload .jobs)) (question .n) sums
+  pub alone : singles ≡ heaviestFirst (weightIn sums) (firstJobs (question .n)) 1
+  pub few : length singles ≤ mostSets
 
 -- ---- the tables of a stage
 

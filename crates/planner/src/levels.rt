@@ -1,19 +1,21 @@
 // The levels, from the lowest up.
 ghost use mathlib.Core.Path.{_≡_};
-ghost use Prim.Native.Nat.{_+_, _^_, _≤_, _<_};
-ghost use lib.ListN.{length, take};
+ghost use Prim.Native.Nat.{_+_, _^_, _<_};
+ghost use lib.ListN.{take};
 ghost use Rattle.sets.specs.Sets.{size};
 ghost use Rattle.records.specs.Limits.{mostJobs};
 ghost use Rattle.records.specs.Records.{table};
+ghost use Rattle.periods.specs.ByPeriods.{byPeriods};
 ghost use Rattle.configuration.specs.Settings.{settingTable};
 ghost use Rattle.response.specs.Demand.{bound};
 ghost use Rattle.assignment.specs.Plan.{settingIn, place as placeOf, start as startOf};
 ghost use Rattle.planner.specs.Questions.{listed, Accepted, Laid};
-ghost use Rattle.planner.specs.Stages.{mostSets, settingsWith, boundsWith, progressOf, stageOf, lastStage, countAll};
+ghost use Rattle.planner.specs.Stages.{Sorted, settingsWith, boundsWith, progressOf, stageOf, lastStage, countAll};
 use crate::choice;
 use crate::choice::Choice;
 use crate::quanta::Question;
 use configuration::setting::Setting;
+use periods::sums::ALL;
 use records::job::Job;
 
 // The plan so far: the jobs not yet placed, the number of sets considered, the settings and the bounds.
@@ -145,15 +147,15 @@ fn start(question: Question) -> Progress
     }
 }
 
-// From the lowest level up, each takes the first set of the sequence that can be taken.
-pub(crate) fn plan_levels(question: Question, sequence: &[u8]) -> Progress
-    requires { ⌜ Accepted question × (length (now sequence) ≤ mostSets) ⌝ }
-    ensures { λ r. ⌜ r ≡ progressOf (lastStage question (now (sequence .entry))) (countAll question (now (sequence .entry))) ⌝ }
+// From the lowest level up, each takes the first set that can be taken.
+pub(crate) fn plan_levels(question: Question, sums: &[u32; ALL], singles: &[u8]) -> Progress
+    requires { ⌜ Accepted question × Sorted question (now sums) (now singles) ⌝ }
+    ensures { λ r. ⌜ r ≡ progressOf (lastStage question (byPeriods (listed question))) (countAll question (byPeriods (listed question))) ⌝ }
 {
     let mut progress = start(question);
     let mut level = question.n;
     while 0 < level {
-        let choice = choice::choose(question, sequence, progress.left);
+        let choice = choice::choose(question, sums, singles, progress.left);
         if choice.set == 0 {
             progress.considered += choice.considered;
             return progress;

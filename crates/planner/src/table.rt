@@ -51,13 +51,17 @@ fn plan_jobs(jobs: [Job; Job::MOST], n: usize, range: Range) -> TablePlan
         range,
         search: QuantaSearch::PerJob,
     };
-    let sequence = sets::order::in_order();
-    let progress = levels::plan_levels(question, &sequence);
+    let all = sets::first_jobs(n);
+    let sums = periods::sums::sums_of(jobs, n);
+    let alone = periods::subsets::subsets_of(&sums, all, 1);
+    let singles = alone.sets;
+    let count = alone.count;
+    let progress = levels::plan_levels(question, &sums, &singles[..count]);
     let settings = progress.settings;
     let bounds = progress.bounds;
     TablePlan {
         answer: Counted::Count(n),
-        placed: sets::rest(sets::first_jobs(n), progress.left),
+        placed: sets::rest(all, progress.left),
         considered: progress.considered,
         settings,
         bounds,

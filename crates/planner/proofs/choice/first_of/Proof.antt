@@ -12,8 +12,8 @@ use Rattle.assignment.specs.Plan.{isFound}
 use Rattle.planner.specs.declared.quanta.Question.{Question}
 use Rattle.planner.specs.Questions.{finds}
 use borrow.Author.Needs.{needs}
-use Rattle.planner.proofs.choice.choose.Statement.{statement}
-use Rattle.planner.proofs.choice.choose.Tie as tie
+use Rattle.planner.proofs.choice.first_of.Statement.{statement}
+use Rattle.planner.proofs.choice.first_of.Tie as tie
 
 -- The test of the sets.
 abbrev takeable : Question → ℕ → ℕ → Bool
@@ -145,8 +145,8 @@ loop-again c =
     let S = step n in
     (reached-next (takeable (a .question) (a .left)) (a .left) (a .sequence .now) (l .loop .place) (l .loop .missed) (l .loop .inv .0) (at n) S (missed q (c .if1 .left)), omega (arith, l .loop .inv .1, S .later), omega (arith, S .before))
 
-pub choose-spec : {M : Type 1} → statement M
-choose-spec =
+pub first-of-spec : {M : Type 1} → statement M
+first-of-spec =
     tie.close
     (tie.spec
     Inv-loop
