@@ -3,7 +3,7 @@
 //!
 //! Words: `quick` measures less; `seed=N` draws other lists; letters such as `ad` name the measures
 //! to run instead of all, or, against another version of the product, instead of those that have it
-//! for their other side.
+//! for their other side; `placed` compares the plans of such a version by the placed set alone.
 
 mod calls;
 mod counted;
@@ -43,6 +43,7 @@ const MEASURES: [Measure; 8] = [
 struct Request {
     quick: bool,
     seed: u64,
+    placed: bool,
     letters: String,
 }
 
@@ -52,6 +53,7 @@ impl Request {
         let mut request = Request {
             quick: false,
             seed: 1,
+            placed: false,
             letters: if cfg!(before) {
                 "acde".into()
             } else {
@@ -62,6 +64,8 @@ impl Request {
         for word in words {
             if word == "quick" {
                 request.quick = true;
+            } else if word == "placed" {
+                request.placed = true;
             } else if let Some(seed) = word.strip_prefix("seed=") {
                 request.seed = seed.parse().ok()?;
             } else if word.chars().all(is_letter) {
@@ -77,6 +81,7 @@ impl Request {
         let pick = |quick: usize, full: usize| if self.quick { quick } else { full };
         Scale {
             seed: self.seed,
+            placed: self.placed,
             lists: pick(100, 400),
             hand_ins: 3000,
             pruned_lists: pick(10, 40),
@@ -91,7 +96,7 @@ impl Request {
 
 fn main() {
     let Some(request) = Request::of_words(std::env::args().skip(1)) else {
-        eprintln!("usage: run [quick] [seed=N] [letters of measures]");
+        eprintln!("usage: run [quick] [seed=N] [placed] [letters of measures]");
         std::process::exit(2);
     };
     println!("seed {}", request.seed);

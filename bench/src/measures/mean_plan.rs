@@ -3,7 +3,7 @@
 use crate::calls::Case;
 use crate::library;
 use crate::lists::{self, Kind, Kinds};
-use crate::measures::{check_plans, time_plans, Scale};
+use crate::measures::{check_opponent, time_plans, Scale};
 use crate::opponent::OPPONENT;
 use crate::random::Random;
 use crate::report;
@@ -22,7 +22,7 @@ fn run_kinds(scale: &Scale, random: &mut Random, kinds: &Kinds, goal: Option<f64
             Case::plan(&lists::list(random, *kind, MOST_JOBS, load), RANGE)
         };
         let cases: Vec<Case> = (0..scale.lists).map(case).collect();
-        check_plans(&cases, library::plan, OPPONENT.plan);
+        check_opponent(scale, &cases);
         let times = time_plans(&cases, scale.effort, library::plan, OPPONENT.plan);
         report::within(&format!("e mean plan, {name}"), &times, OPPONENT.name, goal);
     }

@@ -10,6 +10,8 @@ pub mod same_bytes;
 pub mod slowest_list;
 
 use crate::calls::{Answer, Case, Mark, Plan};
+use crate::library;
+use crate::opponent::OPPONENT;
 use crate::timing::{alternate, Effort, Sides};
 use std::hint::black_box;
 
@@ -17,6 +19,9 @@ use std::hint::black_box;
 #[derive(Clone, Copy)]
 pub struct Scale {
     pub seed: u64,
+    /// Whether another version of the product tries sets in another order, so that its plans are
+    /// compared by the placed set alone.
+    pub placed: bool,
     /// The number of random lists that are planned.
     pub lists: usize,
     /// The number of random lists with configurations that are marked: many, because a processor
@@ -63,6 +68,24 @@ pub fn time_plans(cases: &[Case], effort: Effort, ours: Plan, other: Plan) -> Si
 pub fn time_marks(cases: &[Case], effort: Effort, ours: Mark, other: Mark) -> Sides {
     let call = |mark: Mark| move |case: &Case, answer: &mut Answer| case.call_mark(mark, answer);
     time_calls(cases, effort, call(ours), call(other))
+}
+
+/// Checks that the product and its opponent give the same plans for every case, or the same placed
+/// sets where that alone is asked for.
+pub fn check_opponent(scale: &Scale, cases: &[Case]) {
+    if scale.placed {
+        check_placed(cases, library::plan, OPPONENT.plan);
+    } else {
+        check_plans(cases, library::plan, OPPONENT.plan);
+    }
+}
+
+/// Checks that two planners place the same sets.
+pub fn check_placed(cases: &[Case], ours: Plan, other: Plan) {
+    for case in cases {
+        let (ours, other) = (case.planned(ours), case.planned(other));
+        assert_eq!(ours.placed(), other.placed(), "placed sets differ");
+    }
 }
 
 /// Checks that two planners give the same words and bytes for every case.

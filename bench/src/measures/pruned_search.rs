@@ -5,7 +5,7 @@ use crate::calls::{Case, Plan};
 use crate::counted::{work, Counted};
 use crate::library;
 use crate::lists::{self, Kind};
-use crate::measures::{check_plans, time_plans, Scale};
+use crate::measures::{check_placed, check_plans, time_plans, Scale};
 use crate::pruned::{self, DepthFirst, InOrder, WholeLists};
 use crate::random::Random;
 use crate::report::{self, Goal};
@@ -38,11 +38,7 @@ fn shared(random: &mut Random, kind: Kind) -> Case {
 fn check(cases: &[Case]) {
     check_plans(cases, library::plan, pruned::plan_whole_lists);
     check_plans(cases, library::plan, pruned::plan_in_order);
-    for case in cases {
-        let ours = case.planned(library::plan).placed();
-        let other = case.planned(pruned::plan_depth_first).placed();
-        assert_eq!(ours, other, "placed sets differ");
-    }
+    check_placed(cases, library::plan, pruned::plan_depth_first);
 }
 
 /// The mean times over the lists, and for each list how many times faster, rising.

@@ -4,7 +4,7 @@
 use crate::calls::Case;
 use crate::library;
 use crate::lists::{self, Kind, Kinds};
-use crate::measures::{check_marks, check_plans, time_marks, time_plans, Scale};
+use crate::measures::{check_marks, check_opponent, time_marks, time_plans, Scale};
 use crate::opponent::OPPONENT;
 use crate::random::Random;
 use crate::report::{ratio, Goal};
@@ -38,7 +38,7 @@ fn compare(scale: &Scale, random: &mut Random, kinds: &Kinds, ending: &str) {
     let cases: Vec<Case> = (0..scale.lists)
         .map(|_| Case::plan(&lists::mixed_list(random, kinds), lists::range(random)))
         .collect();
-    check_plans(&cases, library::plan, other.plan);
+    check_opponent(scale, &cases);
     let times = time_plans(&cases, scale.effort, library::plan, other.plan);
     ratio(&format!("a plan{ending}"), &times, other.name, goal());
 }

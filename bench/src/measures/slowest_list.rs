@@ -8,7 +8,7 @@ use crate::delayed_families::DELAYED_FAMILIES;
 use crate::families::{mutated, Changes, Family, FAMILIES};
 use crate::late_families::LATE_FAMILIES;
 use crate::library;
-use crate::measures::{check_plans, time_plans, Scale};
+use crate::measures::{check_opponent, check_plans, time_plans, Scale};
 use crate::opponent::OPPONENT;
 use crate::plain;
 use crate::random::Random;
@@ -143,7 +143,7 @@ impl Search {
         let random = &mut Random::of_measure(scale.seed, self.source);
         let found = self.slowest(random, scale.search_work * self.times_work);
         let cases = [Case::plan(&found.jobs, RANGE)];
-        check_plans(&cases, library::plan, OPPONENT.plan);
+        check_opponent(scale, &cases);
         let effort = Effort {
             pairs: scale.effort.pairs.min(self.most_pairs),
             ..scale.effort

@@ -2,16 +2,18 @@
 
 use crate::same::job::{Jobs, Range};
 use crate::same::marker::{write_bounds, Bounds, BOUND_SIZE};
-use crate::same::order::subsets;
+use crate::same::order::Order;
 use crate::same::quanta::Layer;
 use crate::same::response::{Iteration, Quanta, Shortcuts, Workload};
 use crate::same::setting::{write_settings, Setting, Settings, SETTING_SIZE};
 use crate::same::{contains, first_jobs, word, Refusal, MOST_JOBS};
 
-/// What a level asks: the jobs with their range of quanta, and those of them not yet placed.
+/// What a level asks: the jobs with their range of quanta, the order of their sets, and those of
+/// them not yet placed.
 pub struct Question<'w, I> {
     pub workload: &'w Workload<I>,
     pub range: Range,
+    pub order: &'w Order,
     pub left: u8,
 }
 
@@ -48,19 +50,37 @@ impl<'w, I: Iteration> Question<'w, I> {
     }
 
     /// The first subset of the jobs left that has quanta with the rest above, and the number of
-    /// sets considered.
+    /// sets considered. The sets of a size are put in order when it is reached.
     pub fn take_first(
         &self,
         quanta_of: impl Fn(&Layer<'w, I>) -> Option<Quanta>,
     ) -> (Option<Taken>, u16) {
         let mut considered = 0;
-        for set in subsets(self.left) {
-            considered += 1;
+        let alone = self.order.singles.within(self.left);
+        let mut taken = self.take_among(alone, &mut considered, &quanta_of);
+        let mut size = 1;
+        while taken.is_none() && size < self.left.count_ones() as usize {
+            size += 1;
+            let sets = self.order.subsets(self.left, size);
+            taken = self.take_among(sets.within(self.left), &mut considered, &quanta_of);
+        }
+        (taken, considered)
+    }
+
+    /// The first of some subsets of the jobs left that has quanta; each that is tried is counted.
+    fn take_among(
+        &self,
+        sets: impl Iterator<Item = u8>,
+        considered: &mut u16,
+        quanta_of: &impl Fn(&Layer<'w, I>) -> Option<Quanta>,
+    ) -> Option<Taken> {
+        for set in sets {
+            *considered += 1;
             if let Some(quanta) = quanta_of(&self.layer(set, self.left & !set)) {
-                return (Some(Taken { set, quanta }), considered);
+                return Some(Taken { set, quanta });
             }
         }
-        (None, considered)
+        None
     }
 }
 
@@ -104,11 +124,13 @@ fn plan_levels<I: Iteration>(
     workload: &Workload<I>,
     search: impl Search,
 ) -> Progress {
+    let order = Order::new(jobs);
     let mut progress = Progress::new(jobs);
     for level in (1..=jobs.count).rev() {
         let (taken, considered) = search.take(&Question {
             workload,
             range,
+            order: &order,
             left: progress.left,
         });
         progress.considered += considered;
