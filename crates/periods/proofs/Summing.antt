@@ -1,8 +1,8 @@
 -- How the code sums the periods of all sets: with each job, the sets known so far once more, its period added. Assumes nothing.
-use mathlib.Core.Path.{_≡_, refl, sym, _∙_, ap, ap₂}
+use mathlib.Core.Path.{_≡_, refl, sym, _∙_, ap}
 use mathlib.Core.Bool.{Bool, true, _||_, or-true, or-false, false≢true}
 use mathlib.Core.List.{List}
-use Prim.Native.Nat.{ℕ, suc, _+_, _*_, _-_, _^_, _≤_, _<_}
+use Prim.Native.Nat.{ℕ, _+_, _*_, _-_, _^_, _≤_, _<_}
 use native.Mathlib.Numerals.{add-one}
 use native.Mathlib.Decide.{ℕ-discrete, decLe}
 use native.Mathlib.Omega.{arith}
@@ -10,9 +10,8 @@ use lib.Bits.{bitOr, or-shifted-r}
 use lib.Dec.{eqb}
 use lib.ListN.{length, getD, set, replicate, getD-replicate}
 use lib.Seq.{getD-set-same, getD-set-other}
-use lib.Pow.{pow-mono}
 use borrow.Author.Tests.{eq-eqb, ne-eqb}
-use Rattle.sets.specs.Sets.{places, has, single, insert}
+use Rattle.sets.specs.Sets.{places, has, insert}
 use Rattle.sets.proofs.Places.{over-zero, over-same, over-cut, over-in}
 use Rattle.sets.proofs.Members.{has-none, has-high, has-insert, single-is, eqb-swap}
 use Rattle.periods.specs.ByPeriods.{total}

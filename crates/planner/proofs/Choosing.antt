@@ -1,12 +1,12 @@
 -- A level's search, size by size: the sets that the code walks through are those of the order by periods. Assumes nothing.
-use Prim.Native.Nat.{ℕ, suc, _+_, _-_, _%_, _^_, _≤_, _<_, min}
+use Prim.Native.Nat.{ℕ, suc, _+_, _-_, _^_, _≤_, _<_, min}
 use mathlib.Core.Path.{_≡_, refl, sym, ap, subst, _∙_}
 use mathlib.Core.Bool.{Bool, true}
 use mathlib.Core.List.{List}
 use mathlib.Core.Option.{some}
 use native.Mathlib.Nat.{mod-eq-of-lt}
 use native.Mathlib.Omega.{arith}
-use lib.ListN.{length, getD, take}
+use lib.ListN.{length, take}
 use lib.Pow.{pow-mono}
 use Rattle.sets.specs.Sets.{places, has, within, size, firstJobs}
 use Rattle.sets.specs.Order.{subsets, firstTaken, considered}
@@ -15,13 +15,13 @@ use Rattle.sets.proofs.Members.{has-full, member-lt}
 use Rattle.sets.proofs.Parts.{has-within, within-refl}
 use Rattle.sets.proofs.Ordering.{keep-few}
 use Rattle.sets.proofs.Considering.{considered-few}
-use Rattle.records.specs.Limits.{mostJobs}
+use Rattle.sets.proofs.Searching.{Reached, Answers, reached-none, reached-end, part-taken, part-next}
 use Rattle.records.specs.declared.job.Job.{Job}
-use Rattle.periods.specs.ByPeriods.{total, inOrderBy, periodAt, byPeriods}
+use Rattle.periods.specs.ByPeriods.{total, periodAt, byPeriods}
 use Rattle.periods.specs.Subsets.{weightIn, heaviestFirst, SubsetsOf}
 use Rattle.periods.specs.declared.subsets.Subsets.{Subsets}
 use Rattle.periods.proofs.Ruling.{periods-length}
-use Rattle.periods.proofs.SizeBySize.{part-subsets, heaviest-same, Reached, Answers, reached-none, reached-end, reached-taken, reached-next}
+use Rattle.periods.proofs.SizeBySize.{part-subsets, heaviest-same, beyond, beyond-all, beyond-next, beyond-none, next-some}
 use Rattle.planner.specs.declared.quanta.Question.{Question}
 use Rattle.planner.specs.declared.choice.Choice.{Choice}
 use Rattle.planner.specs.Questions.{listed, finds, Accepted}
@@ -73,29 +73,32 @@ module _ (question : Question) (A : Accepted question) (sums singles : List ℕ)
     unfolding subsets
     tried-few = omega (arith, considered-few can tried, keep-few (λ s. within s left) (byPeriods (listed question)), periods-length (listed question))
 
-    -- What it comes to.
-    answered : (r : Choice) → Answers can weigh left (r .set) (r .considered)
-        → (0 < r .set → finds question left (r .set) ≡ some (take (question .n) (r .quanta))) → Chosen question (byPeriods (listed question)) left r
+    -- The sets that have up to m members are considered, and none of them can be taken.
+    abbrev pub Searched : ℕ → ℕ → Type 0
+    Searched m missed = Reached can tried (beyond weigh left m) missed
+
+    pub search-starts : Searched 0 0
     unfolding byPeriods
+    search-starts = subst (λ (sets : List ℕ). Reached can tried sets 0) (beyond-all weigh left) (reached-none can tried)
+
+    -- What it comes to.
+    answered : (r : Choice) → Answers can tried (r .set) (r .considered) → (0 < r .set → finds question left (r .set) ≡ some (take (question .n) (r .quanta)))
+        → Chosen question (byPeriods (listed question)) left r
     answered r W quanta = record {
       set = sym (W .first);
       quanta = quanta;
       count = sym (W .count);
-      few = omega (arith, W .count, tried-few, periods-length (listed question), considered-few can tried, keep-few (λ s. within s left) (byPeriods (listed question)));
+      few = omega (arith, W .count, tried-few, periods-length (listed question));
     }
 
-    pub search-starts : Reached can weigh left 0 0
-    search-starts = reached-none can weigh left
-
-    module _ (m missed : ℕ) (R : Reached can weigh left m missed) where
+    module _ (m missed : ℕ) (R : Searched m missed) where
       pub missed-few : missed ≤ mostSets
-      unfolding byPeriods
       missed-few = omega (arith, R .count, tried-few)
 
       -- All sizes are tried.
       pub search-ends : size left ≤ m → (r : Choice) → r .set ≡ 0 → r .considered ≡ missed → Chosen question (byPeriods (listed question)) left r
       search-ends l r none count =
-          let W = reached-end can weigh left m missed R l in
+          let W = reached-end can tried (beyond weigh left m) missed R (beyond-none weigh left m l) in
           answered r (record { first = W .first ∙ sym none; count = W .count ∙ sym count }) (λ p. absurd (omega arith))
 
       -- The sets of one member more are tried: r is what was found among them.
@@ -106,17 +109,17 @@ module _ (question : Question) (A : Accepted question) (sums singles : List ℕ)
         count-is : r .considered ≡ length (considered can (heaviestFirst weigh left (suc m)))
         count-is = C .count ∙ ap (λ (sets : List ℕ). length (considered can sets)) are
 
-        pub size-misses : r .set ≡ 0 → (next more : ℕ) → next ≡ suc m → more ≡ missed + r .considered → Reached can weigh left next more
+        pub size-misses : r .set ≡ 0 → (next more : ℕ) → next ≡ suc m → more ≡ missed + r .considered → Searched next more
         size-misses none next more en em =
-            let W = reached-next can weigh left m missed R l (sym first-is ∙ none) in
+            let W = part-next can tried (beyond weigh left m) missed R (heaviestFirst weigh left (suc m)) (beyond weigh left (suc m)) (beyond-next weigh left m l)
+            (next-some weigh left m) (sym first-is ∙ none) in
             let e : missed + length (considered can (heaviestFirst weigh left (suc m))) ≡ more = omega (arith, count-is) in
-            subst (λ (k : ℕ). Reached can weigh left k more) (sym en) (subst (λ (k : ℕ). Reached can weigh left (suc m) k) e W)
+            subst (λ (k : ℕ). Searched k more) (sym en) (subst (λ (k : ℕ). Searched (suc m) k) e W)
 
         pub size-takes : (r .set ≡ 0 → ⊥) → (whole : Choice) → whole .set ≡ r .set → whole .quanta ≡ r .quanta → whole .considered ≡ missed + r .considered
             → Chosen question (byPeriods (listed question)) left whole
         size-takes some-set whole es eq ec =
-            let W = reached-taken can weigh left m missed R l (omega (arith, first-is)) in
+            let W = part-taken can tried (beyond weigh left m) missed R (heaviestFirst weigh left (suc m)) (beyond weigh left (suc m)) (beyond-next weigh left m l) (omega (arith, first-is)) in
             answered whole
             (record { first = W .first ∙ sym (es ∙ first-is); count = W .count ∙ omega (arith, ec, count-is) })
-            (λ p.
-            ap (finds question left) es ∙ C .quanta (omega (arith, es)) ∙ ap (λ (q : List ℕ). some (take (question .n) q)) (sym eq))
+            (λ p. ap (finds question left) es ∙ C .quanta (omega (arith, es)) ∙ ap (λ (q : List ℕ). some (take (question .n) q)) (sym eq))

@@ -1,7 +1,7 @@
 -- What a caller of the planner holds is the plan, and demand 3 is said of it. Assumes nothing.
 use Prim.Native.Nat.{ℕ, _*_, _≤_, _<_}
 use mathlib.Core.Path.{_≡_, sym, ap, ap₂, subst, _∙_}
-use mathlib.Core.Bool.{Bool, true}
+use mathlib.Core.Bool.{true}
 use mathlib.Core.Logic.{_↔_}
 use mathlib.Core.List.{List, _++_}
 use native.Mathlib.Nat.{lt-of-lt-of-le}
@@ -10,9 +10,8 @@ use lib.ListN.{length, take, drop}
 use lib.Pow.{pow-mono}
 use lib.Seq.{take-at}
 use borrow.Author.Tests.{le-leb}
-use Rattle.sets.specs.Sets.{has}
 use Rattle.sets.proofs.Places.{every-at, every-of}
-use Rattle.records.specs.Refusals.{Answer, given, Accepts}
+use Rattle.records.specs.Refusals.{given, Accepts}
 use Rattle.records.specs.Records.{wordBytes, flat, written}
 use Rattle.records.specs.Jobs.{jobSize, jobOf, jobCount, jobList}
 use Rattle.records.specs.Calls.{callTests}
@@ -24,12 +23,11 @@ use Rattle.records.proofs.FixedWidth.{length-flat, length-chunks, word-width, w
 use Rattle.configuration.specs.declared.setting.Setting.{Setting}
 use Rattle.configuration.specs.Settings.{settingSize, settingBytes, settingTable}
 use Rattle.configuration.specs.Configuration.{isPlaced, full, fullTests}
-use Rattle.configuration.specs.Blocks.{settingsOf, recordTests, handInTests, readConfiguration}
+use Rattle.configuration.specs.Blocks.{settingsOf, recordTests, handInTests}
 use Rattle.configuration.proofs.SettingRecords.{setting-width}
 use Rattle.configuration.proofs.RoundTrip.{settings-read, configuration-block, read-bytes}
 use Rattle.configuration.proofs.HandIns.{full-accepted}
-use Rattle.marker.specs.Bounds.{boundsOf}
-use Rattle.marker.specs.Marks.{boundSize, boundsIn, marked, boundsRoom, boundsTests, boundsOutcome, markTests, markOutcome}
+use Rattle.marker.specs.Marks.{boundSize, boundsIn, marked, boundsRoom, boundsTests, boundsOutcome, markOutcome}
 use Rattle.marker.proofs.Verdicts.{NoneZero, passes-exactly, mark-passes}
 use Rattle.assignment.specs.Plan.{Plan, plan}
 use Rattle.assignment.specs.Guarantee.{Guarantee}

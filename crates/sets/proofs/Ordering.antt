@@ -174,6 +174,20 @@ pairwise-among R Q (x ∷ xs) h o = (
   pairwise-among R Q xs (λ a b s t. h a b (List·Memᴰ·tail s) (List·Memᴰ·tail t)) (o .1),
 )
 
+-- A relation that no entry has to itself: each entry stands at one place.
+pub one-place : (R : ℕ → ℕ → Type 0) → ((x : ℕ) → R x x → ⊥) → (xs : List ℕ) → Pairwise R xs → (p q : ℕ) {s : ℕ}
+    → p < length xs → q < length xs → getD xs p 0 ≡ s → getD xs q 0 ≡ s → q ≡ p
+one-place R never xs o p q {s} lp lq e f = elim (ℕ-discrete q p) [
+  | yes g ↦ g
+  | no g ↦ elim (decLe q p) [
+    | yes h ↦ absurd (apart q p (omega arith) lp f e)
+    | no h ↦ absurd (apart p q (omega arith) lq e f)
+  ]
+]
+  where
+    apart : (p q : ℕ) → p < q → q < length xs → getD xs p 0 ≡ s → getD xs q 0 ≡ s → ⊥
+    apart p q l h e f = never s (subst (λ (x : ℕ). R s x) f (subst (λ (x : ℕ). R x (getD xs q 0)) e (pairwise-at R xs o p q l h)))
+
 -- The smaller set first, among sets of one size the smaller number first.
 record Before (s t : ℕ) : Type 0 where
   pub sizes : size s ≤ size t
@@ -208,23 +222,11 @@ pub rule : (n : ℕ) → Rule n (inOrder n)
 rule n = record {
   once = λ s p b.
       let w = place-of (inOrder n) s (order-in n s p b) in
-      (w .0, w .1, w .2, λ q l e. apart (w .0) q (w .1) l (w .2) e);
+      (w .0, w .1, w .2, λ q l e. one-place Before (λ x h. omega (arith, h .numbers refl)) (inOrder n) (order-pairwise n) (w .0) q (w .1) l (w .2) e);
   only = λ p l. order-out n (getD (inOrder n) p 0) (member-at (inOrder n) p l);
   sizes = λ p q l h. pairwise-at Before (inOrder n) (order-pairwise n) p q l h .sizes;
   numbers = λ p q l h. pairwise-at Before (inOrder n) (order-pairwise n) p q l h .numbers;
 }
-  where
-    less : (p q s : ℕ) → p < q → q < length (inOrder n) → getD (inOrder n) p 0 ≡ s → getD (inOrder n) q 0 ≡ s → ⊥
-    less p q s l h e f = omega (arith, pairwise-at Before (inOrder n) (order-pairwise n) p q l h .numbers (ap size (e ∙ sym f)))
-
-    apart : (p q : ℕ) {s : ℕ} → p < length (inOrder n) → q < length (inOrder n) → getD (inOrder n) p 0 ≡ s → getD (inOrder n) q 0 ≡ s → q ≡ p
-    apart p q {s} lp lq e f = elim (ℕ-discrete q p) [
-      | yes g ↦ g
-      | no g ↦ elim (decLe q p) [
-        | yes h ↦ absurd (less q p s (omega arith) lp f e)
-        | no h ↦ absurd (less p q s (omega arith) lq e f)
-      ]
-    ]
 
 -- The rule of the table of the code.
 pub table-rule : Rule places table

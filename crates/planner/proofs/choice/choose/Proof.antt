@@ -11,7 +11,8 @@ use Rattle.sets.specs.Order.{subsets}
 use Rattle.sets.proofs.Parts.{size-bound}
 use Rattle.periods.specs.ByPeriods.{total, periodAt, byPeriods}
 use Rattle.periods.specs.Subsets.{mostOfSize, heaviestFirst}
-use Rattle.periods.proofs.SizeBySize.{Reached}
+use Rattle.periods.proofs.SizeBySize.{beyond}
+use Rattle.sets.proofs.Searching.{Reached}
 use Rattle.planner.specs.declared.quanta.Question.{Question}
 use Rattle.planner.specs.Questions.{listed}
 use Rattle.planner.specs.Stages.{takeable, Chosen}
@@ -22,7 +23,7 @@ use Rattle.planner.proofs.choice.choose.Tie as tie
 
 abbrev Inv-loop : tie.InvT-loop
 Inv-loop question sums singles left most missed₀ size₀ missed size =
-    (size ≤ places) × Reached (takeable question left) (total (periodAt (listed question))) left size missed
+    (size ≤ places) × Reached (takeable question left) (subsets left (byPeriods (listed question))) (beyond (total (periodAt (listed question))) left size) missed
 
 abbrev μ-loop : tie.MeasureT-loop
 μ-loop question sums singles left most missed₀ size₀ missed size = most - size
@@ -46,7 +47,7 @@ module _ (c : tie.After-first-of Inv-loop μ-loop) where
       size-takes question (start .pre .0) _ _ (start .pre .2) left (start .pre .1) 0 0 (search-starts question (start .pre .0) _ _ (start .pre .2) left (start .pre .1)) (omega arith)
       (start .args .singles .now) (singles-are question (start .pre .0) _ _ (start .pre .2) left (start .pre .1)) (c .first-of .result) (c .first-of .ensures) some-set (c .first-of .result) refl refl (omega arith)
 
-  alone-misses : c .first-of .result .set ≡ 0 → Reached (takeable question left) (total (periodAt (listed question))) left 1 (c .first-of .result .considered)
+  alone-misses : c .first-of .result .set ≡ 0 → Reached (takeable question left) (subsets left (byPeriods (listed question))) (beyond (total (periodAt (listed question))) left 1) (c .first-of .result .considered)
   alone-misses none =
       size-misses question (start .pre .0) _ _ (start .pre .2) left (start .pre .1) 0 0 (search-starts question (start .pre .0) _ _ (start .pre .2) left (start .pre .1)) (omega arith)
       (start .args .singles .now) (singles-are question (start .pre .0) _ _ (start .pre .2) left (start .pre .1)) (c .first-of .result) (c .first-of .ensures) none 1 (c .first-of .result .considered) refl (omega arith)

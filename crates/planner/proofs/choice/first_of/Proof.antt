@@ -4,7 +4,8 @@ use mathlib.Core.Bool.{Bool, true, false, cond}
 use mathlib.Core.List.{List}
 use mathlib.Core.Option.{Option, none, some}
 use native.Mathlib.Omega.{arith}
-use lib.ListN.{length, getD, take}
+use lib.ListN.{length, getD, take, drop}
+use Rattle.sets.specs.Order.{subsets}
 use Rattle.sets.proofs.Parts.{within-le}
 use Rattle.sets.proofs.Walk.{Step, walk-found, walk-ends}
 use Rattle.sets.proofs.Searching.{Reached, reached-none, reached-end, reached-taken, reached-next}
@@ -21,7 +22,7 @@ takeable question left s = isFound (finds question left s)
 
 abbrev Inv-loop : tie.InvT-loop
 Inv-loop question sequence left place₀ missed₀ place missed =
-    Reached (takeable question left) left sequence place missed × (missed ≤ place) × (place ≤ length sequence)
+    Reached (takeable question left) (subsets left sequence) (subsets left (drop place sequence)) missed × (missed ≤ place) × (place ≤ length sequence)
 
 abbrev μ-loop : tie.MeasureT-loop
 μ-loop question sequence left place₀ missed₀ place missed = length sequence - place
@@ -29,7 +30,7 @@ abbrev μ-loop : tie.MeasureT-loop
 loop-holds : tie.Need-loop-holds Inv-loop μ-loop
 loop-holds c =
     let a = c .before .args in
-    (reached-none (takeable (a .question) (a .left)) (a .left) (a .sequence .now), omega arith, omega arith)
+    (reached-none (takeable (a .question) (a .left)) (subsets (a .left) (a .sequence .now)), omega arith, omega arith)
 
 next-subset-requires : tie.Need-next-subset-requires Inv-loop μ-loop
 next-subset-requires c κs = search needs
@@ -86,7 +87,7 @@ returns c =
     let w = c .before .before in
     let l = w .before in
     let a = start w .args in
-    let A = reached-end (takeable (a .question) (a .left)) (a .left) (sequence w) (l .loop .place) (l .loop .missed) (l .loop .inv .0)
+    let A = reached-end (takeable (a .question) (a .left)) (subsets (a .left) (sequence w)) _ (l .loop .missed) (l .loop .inv .0)
     (walk-ends (sequence w) (a .left) (l .loop .place) (sym (w .next-subset .ensures) ∙ c .enum-told .given .1))
     in
     record { set = sym (A .first); quanta = λ p. absurd (omega arith); count = sym (A .count); few = omega (arith, l .loop .inv .1, l .loop .inv .2) }
@@ -113,7 +114,7 @@ returns-2 c =
     let a = asked q .args in
     let f = found q (c .before .if1 .taken) in
     let S = step n in
-    let A = reached-taken (takeable (a .question) (a .left)) (a .left) (a .sequence .now) (l .loop .place) (l .loop .missed) (l .loop .inv .0) (at n) S (ap isFound f) in
+    let A = reached-taken (takeable (a .question) (a .left)) (subsets (a .left) (a .sequence .now)) _ (l .loop .missed) (l .loop .inv .0) _ _ (S .first) (ap isFound f) in
     record {
       set = sym (A .first);
       quanta = λ p. f;
@@ -143,7 +144,7 @@ loop-again c =
     let l = walk n .before in
     let a = asked q .args in
     let S = step n in
-    (reached-next (takeable (a .question) (a .left)) (a .left) (a .sequence .now) (l .loop .place) (l .loop .missed) (l .loop .inv .0) (at n) S (missed q (c .if1 .left)), omega (arith, l .loop .inv .1, S .later), omega (arith, S .before))
+    (reached-next (takeable (a .question) (a .left)) (subsets (a .left) (a .sequence .now)) _ (l .loop .missed) (l .loop .inv .0) _ _ (S .first) (missed q (c .if1 .left)), omega (arith, l .loop .inv .1, S .later), omega (arith, S .before))
 
 pub first-of-spec : {M : Type 1} → statement M
 first-of-spec =
