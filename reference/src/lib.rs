@@ -1,8 +1,9 @@
-//! The entries of the scope document with its change requests E1, E2, E4, E5 and E6 as plain
+//! The entries of the scope document with its change requests E1, E2, E4, E5, E6 and E7 as plain
 //! functions, written by direct reading and exhaustive search, and the generation of cases with
 //! their expected answers.
 
 pub mod breakdown;
+pub mod changed_keys;
 pub mod configuration;
 pub mod desk;
 pub mod entries;
@@ -16,6 +17,8 @@ pub mod planner;
 pub mod quanta;
 pub mod refusal;
 pub mod response_time;
+pub mod sets;
+pub mod text_list;
 
 pub use breakdown::breakdown;
 pub use configuration::{read_configuration, same_bytes, write_configuration};

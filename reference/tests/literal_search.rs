@@ -3,6 +3,8 @@
 
 mod common;
 
+use std::cmp::Ordering;
+
 use common::near_full_list;
 use reference::configuration::{judge_range, not_placed, QuantumRange, Setting};
 use reference::entries::PLAN;
@@ -11,15 +13,16 @@ use reference::generation::long_deadlines::has_long_deadline;
 use reference::generation::random::Random;
 use reference::generation::rounds::Kind;
 use reference::generation::{
-    cases_of_kind, entry_of_case, input_of_case, DELAYS, LIGHT_NEIGHBOURS, LONG_DEADLINES,
+    cases_of_kind, entry_of_case, input_of_case, DELAYS, LIGHT_NEIGHBOURS, LONG_DEADLINES, PERIODS,
     SHORT_DEADLINES,
 };
 use reference::jobs::{jobs_of_block, Job};
-use reference::planner::{members_of_set, place, plan_jobs, subsets_in_order, whole_set, Plan};
+use reference::planner::{place, plan_jobs, plan_jobs_by, Plan, Rules, RULES};
 use reference::quanta::{next_quanta_list, Layer};
 use reference::response_time::{
     bound, bounds_of_settings, first_bound, jobs_above, second_bound, INSTANCES,
 };
+use reference::sets::{by_number, members_of_set, whole_set};
 
 /// The settings with the set taken at the level, if some quanta serve each of its jobs.
 fn settings_with_set(
@@ -56,11 +59,33 @@ fn settings_with_set(
     }
 }
 
-fn literal_plan(jobs: &[Job], range: QuantumRange) -> Plan {
+/// Which of two sets of jobs of a list is considered first.
+type Compare = fn(&[Job], u8, u8) -> Ordering;
+
+/// By 01: "smaller ones first", "among sets of one size the smaller number is first".
+fn by_scope(_: &[Job], one: u8, other: u8) -> Ordering {
+    let by_size = one.count_ones().cmp(&other.count_ones());
+    by_size.then(one.cmp(&other))
+}
+
+/// By E7: "by size, then by larger sum of periods, then by smaller set number".
+fn by_request(jobs: &[Job], one: u8, other: u8) -> Ordering {
+    let sum = |set: u8| -> u64 {
+        let places = (0..jobs.len()).filter(|place| set >> place & 1 == 1);
+        places.map(|place| u64::from(jobs[place].period)).sum()
+    };
+    let by_size = one.count_ones().cmp(&other.count_ones());
+    let by_sum = sum(other).cmp(&sum(one));
+    by_size.then(by_sum).then(one.cmp(&other))
+}
+
+fn literal_plan(jobs: &[Job], range: QuantumRange, compare: Compare) -> Plan {
     let mut settings: Vec<Setting> = jobs.iter().map(not_placed).collect();
     let (mut rest, mut level, mut considered) = (whole_set(jobs), jobs.len() as u8, 0);
     'levels: while rest != 0 {
-        for set in subsets_in_order(rest) {
+        let mut sets: Vec<u8> = (1..=rest).filter(|set| set & !rest == 0).collect();
+        sets.sort_by(|one, other| compare(jobs, *one, *other));
+        for set in sets {
             considered += 1;
             if let Some(taken) = settings_with_set(jobs, range, &settings, set, level) {
                 settings = taken;
@@ -112,7 +137,8 @@ fn compare(kind: &Kind, is_wanted: fn(&[Job]) -> bool) -> usize {
     let mut wanted = 0;
     for case in cases_of_kind(kind) {
         if let Some((jobs, range)) = affordable_case(case) {
-            assert_eq!(plan_jobs(&jobs, range), literal_plan(&jobs, range));
+            let expected = literal_plan(&jobs, range, by_request);
+            assert_eq!(plan_jobs(&jobs, range), expected);
             wanted += usize::from(is_wanted(&jobs));
         }
     }
@@ -141,6 +167,27 @@ fn the_planner_agrees_with_the_literal_search_on_light_neighbours() {
 fn the_planner_agrees_with_the_literal_search_on_delays() {
     let with_delay = compare(&DELAYS, has_delay);
     assert!(with_delay >= 60, "{with_delay} lists");
+}
+
+#[test]
+fn the_planner_agrees_with_the_literal_search_on_periods() {
+    let compared = compare(&PERIODS, |_| true);
+    assert!(compared >= 200, "{compared} lists compared");
+}
+
+#[test]
+fn the_planner_agrees_with_the_literal_search_in_the_order_of_the_scope() {
+    let rules = Rules {
+        order: by_number,
+        ..RULES
+    };
+    let mut differing = 0;
+    for (jobs, range) in cases_of_kind(&PERIODS).filter_map(affordable_case) {
+        let plan = plan_jobs_by(&jobs, range, rules);
+        assert_eq!(plan, literal_plan(&jobs, range, by_scope));
+        differing += usize::from(plan != plan_jobs(&jobs, range));
+    }
+    assert!(differing >= 150, "{differing} lists");
 }
 
 /// The quanta that a layer's search finds for the first two jobs of a list or more, with the rest
@@ -194,15 +241,4 @@ fn a_layer_takes_the_first_list_that_serves_by_either_bound() {
     }
     let counts = [by_first, by_second, by_none];
     assert!(counts.iter().all(|count| *count >= 200), "{counts:?}");
-}
-
-#[test]
-fn the_order_of_all_255_sets() {
-    let sets = subsets_in_order(255);
-    assert_eq!(sets.len(), 255);
-    assert_eq!(sets[..10], [1, 2, 4, 8, 16, 32, 64, 128, 3, 5]);
-    assert!(sets
-        .windows(2)
-        .all(|pair| (pair[0].count_ones(), pair[0]) < (pair[1].count_ones(), pair[1])));
-    assert_eq!(subsets_in_order(0b110), [2, 4, 6]);
 }

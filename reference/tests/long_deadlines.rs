@@ -145,17 +145,15 @@ fn a_job_not_placed_is_above_every_instance() {
 
 #[test]
 fn the_planner_takes_a_job_by_its_whole_run() {
-    // The first job does not fit below the second: 26 + 62 is above 70.
-    let expected = |considered, settings, bounds| Planned {
+    // The second job has the longer period, so it is considered first, and it fits below the first.
+    let expected = Planned {
         placed: 3,
-        considered,
-        settings,
-        bounds,
+        considered: 2,
+        settings: ONE_BELOW_THE_OTHER.to_vec(),
+        bounds: vec![26, 118],
     };
-    assert_eq!(
-        planned(&[(26, 70, 70), (62, 100, 118)], 1, 4),
-        expected(3, ONE_BELOW_THE_OTHER.to_vec(), vec![26, 118])
-    );
+    assert_eq!(planned(&[(26, 70, 70), (62, 100, 118)], 1, 4), expected);
+    // With one tick less it does not, and neither does the first below it: 26 + 62 is above 70.
     assert_eq!(planned(&[(26, 70, 70), (62, 100, 117)], 1, 4).placed, 0);
 }
 

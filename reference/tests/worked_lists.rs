@@ -1,4 +1,5 @@
-//! The worked exam lists K1 to K9, through the planner, the marker and the bounds entry.
+//! The worked exam lists K1 to K9 with E7's figures, through the planner, the marker and the bounds
+//! entry.
 
 mod common;
 
@@ -53,15 +54,17 @@ fn k3_nothing_placed_in_the_narrow_range() {
 #[test]
 fn k4_three_single_jobs() {
     let jobs = [(1, 4, 4), (2, 6, 6), (3, 12, 12)];
-    let settings = vec![[1, 2, 1, 0], [2, 1, 1, 0], [3, 3, 1, 0]];
+    let settings = vec![[1, 1, 1, 0], [2, 2, 1, 0], [3, 3, 1, 0]];
     let expected = Planned {
         placed: 7,
-        considered: 5,
+        considered: 3,
         settings: settings.clone(),
-        bounds: vec![3, 2, 10],
+        bounds: vec![1, 3, 10],
     };
     assert_eq!(planned(&jobs, 1, 4), expected);
-    assert_eq!(marked(&jobs, 1, 4, &settings), (true, vec![3, 2, 10]));
+    assert_eq!(marked(&jobs, 1, 4, &settings), (true, vec![1, 3, 10]));
+    let by_scope = [[1, 2, 1, 0], [2, 1, 1, 0], [3, 3, 1, 0]];
+    assert_eq!(marked(&jobs, 1, 4, &by_scope), (true, vec![3, 2, 10]));
 }
 
 #[test]
@@ -97,7 +100,7 @@ fn k7_two_levels_pass() {
     assert_eq!(marked(&jobs, 1, 4, &settings), (true, vec![6, 23]));
     let expected = Planned {
         placed: 3,
-        considered: 3,
+        considered: 2,
         settings,
         bounds: vec![6, 23],
     };
@@ -121,7 +124,7 @@ fn k9_the_third_job_alone() {
     let settings = vec![[1, 0, 0, 0], [2, 0, 0, 0], [3, 3, 1, 0]];
     let expected = Planned {
         placed: 4,
-        considered: 6,
+        considered: 4,
         settings: settings.clone(),
         bounds: vec![0, 0, 64],
     };

@@ -6,11 +6,8 @@ use crate::frames::Frame;
 use crate::generation::random::Random;
 use crate::generation::worked::{
     with_quanta, worked, List, Worked, COST_0, EIGHT, FALLING as LAYERS, ID_0, KEY, NONE, ONE,
-    SAME_ID, TWO,
+    SAME_ID, THREE, TWO,
 };
-
-/// The fourth exam list.
-const THREE: List = &[(1, 0, 1, 4, 4), (2, 0, 2, 6, 6), (3, 0, 3, 12, 12)];
 
 /// The list of E2, whose first job's second bound decides.
 const LIGHT: List = &[(1, 0, 4, 20, 20), (2, 0, 2, 20, 20)];

@@ -17,7 +17,7 @@ use crate::generation::layers::stuck_on_top;
 use crate::generation::light_neighbour_calls::uneven_range;
 use crate::generation::lists::range;
 use crate::generation::long_deadlines::with_long_deadlines;
-use crate::generation::plans::{list_with_outcome, Deadlines, Outcome};
+use crate::generation::plans::{list_with_outcome, Deadlines, Outcome, DRAWING_ORDER};
 use crate::generation::random::Random;
 use crate::generation::rounds::{job_row, row, Kind, Row};
 use crate::jobs::Job;
@@ -153,5 +153,5 @@ fn planner_list(
 
 /// Whether the delays of a list change its plan.
 fn are_shown_by(jobs: &[Job], range: QuantumRange, plan: &Plan) -> bool {
-    delays_change_plan(jobs, range, &plan.bounds)
+    delays_change_plan(jobs, range, DRAWING_ORDER, &plan.bounds)
 }

@@ -11,7 +11,7 @@ use crate::generation::effects::EFFECTS;
 use crate::generation::Case;
 use crate::jobs::Job;
 use crate::key::KEY_RANGE;
-use crate::planner::plan_jobs;
+use crate::planner::{plan_jobs, RULES};
 
 /// The counts of one entry's accepted cases in which a list has a delay.
 #[derive(Clone, Copy, Debug, Default)]
@@ -70,12 +70,13 @@ pub struct DelayCounts {
 
 /// Whether the delays of an accepted case change the bounds that it answers, if it answers some.
 fn delays_matter(input: &Frame, jobs: &[Job], answered: Option<&Answered>) -> bool {
+    let change_plan = |range, bounds: &[u16]| delays_change_plan(jobs, range, RULES.order, bounds);
     match (input.head, answered) {
         (BOUNDS | MARK | BREAKDOWN, Some(answered)) => {
             delays_change_bounds(jobs, &answered.settings)
         }
-        (PLAN, Some(answered)) => delays_change_plan(jobs, answered.range, &answered.bounds),
-        (KEY, _) => delays_change_plan(jobs, KEY_RANGE, &plan_jobs(jobs, KEY_RANGE).bounds),
+        (PLAN, Some(answered)) => change_plan(answered.range, &answered.bounds),
+        (KEY, _) => change_plan(KEY_RANGE, &plan_jobs(jobs, KEY_RANGE).bounds),
         _ => false,
     }
 }

@@ -15,6 +15,7 @@ use crate::generation::runs::{list_with_wanted_run, Wanted, LAST};
 use crate::generation::situations::Situation;
 use crate::jobs::{Job, LONGEST_DEADLINE};
 use crate::response_time::{End, INSTANCES};
+use crate::sets::SetOrder;
 
 /// How often a list is drawn until a job shows the wanted effect.
 const ATTEMPTS: usize = 40;
@@ -52,10 +53,15 @@ pub fn delays_change_bounds(jobs: &[Job], settings: &[Setting]) -> bool {
     })
 }
 
-/// Whether a plan's bounds are other ones than those of the plan without delays. They are not said
-/// to be if the search for that plan is not affordable.
-pub fn delays_change_plan(jobs: &[Job], range: QuantumRange, bounds: &[u16]) -> bool {
-    let without = affordable_plan(&without_delays(jobs), range);
+/// Whether a plan's bounds are other ones than those of the plan without delays, the sets being in
+/// one order. They are not said to be if the search for that plan is not affordable.
+pub fn delays_change_plan(
+    jobs: &[Job],
+    range: QuantumRange,
+    order: SetOrder,
+    bounds: &[u16],
+) -> bool {
+    let without = affordable_plan(&without_delays(jobs), range, order);
     without.is_some_and(|plan| plan.bounds != bounds)
 }
 

@@ -23,12 +23,19 @@ pub mod light_neighbours;
 pub mod lists;
 pub mod long_deadline_calls;
 pub mod long_deadlines;
+pub mod order_counts;
+pub mod orders;
+pub mod period_calls;
+pub mod period_lists;
+pub mod period_shapes;
+pub mod period_worked;
 pub mod plan_counts;
 pub mod plans;
 pub mod random;
 pub mod rounds;
 pub mod run_counts;
 pub mod runs;
+pub mod searches;
 pub mod setting_faults;
 pub mod short_deadline_calls;
 pub mod situation_counts;
@@ -41,6 +48,7 @@ pub use delay_calls::DELAYS;
 pub use kernel_calls::KERNEL_RECORDS;
 pub use light_neighbour_calls::LIGHT_NEIGHBOURS;
 pub use long_deadline_calls::LONG_DEADLINES;
+pub use period_calls::PERIODS;
 pub use short_deadline_calls::SHORT_DEADLINES;
 
 use std::ops::Range;
@@ -62,6 +70,7 @@ pub const KINDS: &[&Kind] = &[
     &LONG_BLOCKS,
     &KERNEL_RECORDS,
     &BREAKDOWNS,
+    &PERIODS,
 ];
 
 /// The place of a case's kind among the kinds, and how many cases of that kind come before it.

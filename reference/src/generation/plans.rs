@@ -10,11 +10,15 @@ use crate::generation::long_deadlines::{has_long_deadline, with_long_deadlines, 
 use crate::generation::random::Random;
 use crate::generation::runs::list_with_run;
 use crate::jobs::Job;
-use crate::planner::{plan_jobs_within, Plan};
-use crate::response_time::BoundRule;
+use crate::planner::{plan_jobs_within, Plan, Rules, RULES};
+use crate::sets::{by_number, SetOrder};
 
-/// The most lists of quanta that the planner may try for one case.
+/// The most lists of quanta that a search may try where a list is drawn.
 const MOST_LISTS: u64 = 600_000;
+
+/// The order of sets in the plans by whose outcomes lists are drawn. It is 01's, whichever order
+/// answers go by: which lists are drawn does not depend on the order of the sets.
+pub const DRAWING_ORDER: SetOrder = by_number;
 
 /// How often a list is drawn until its outcome is the one wanted.
 const ATTEMPTS: usize = 48;
@@ -169,16 +173,18 @@ pub fn shares_with_long_deadline(jobs: &[Job], settings: &[Setting]) -> bool {
     pairs.any(|(job, setting)| setting.policy == ROUND_ROBIN && job.deadline > job.period)
 }
 
-/// The plan of a list in a range, if the search tries no more lists of quanta than it may.
-pub fn affordable_plan(jobs: &[Job], range: QuantumRange) -> Option<Plan> {
-    plan_jobs_within(jobs, range, BoundRule::Lesser, MOST_LISTS).ok()
+/// The plan of a list in a range with the sets in an order, if the search tries no more lists of
+/// quanta than it may.
+pub fn affordable_plan(jobs: &[Job], range: QuantumRange, order: SetOrder) -> Option<Plan> {
+    let rules = Rules { order, ..RULES };
+    plan_jobs_within(jobs, range, rules, MOST_LISTS).ok()
 }
 
 /// A range that is as wide as the one given, or as narrow as the list's search needs, with the
 /// plan in it.
 pub fn affordable(jobs: &[Job], mut range: QuantumRange) -> (QuantumRange, Plan) {
     loop {
-        match affordable_plan(jobs, range) {
+        match affordable_plan(jobs, range, DRAWING_ORDER) {
             Some(plan) => return (range, plan),
             None => range.highest = range.lowest + (range.highest - range.lowest) / 2,
         }

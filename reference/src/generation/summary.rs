@@ -7,10 +7,11 @@ use crate::entries::{BREAKDOWN, ENTRIES, KEY, PLAN};
 use crate::generation::by_entry::{Answered, ByEntry, Counts};
 use crate::generation::delay_counts::DelayCounts;
 use crate::generation::feature_counts::FeatureCounts;
+use crate::generation::order_counts::OrderCounts;
 use crate::generation::plan_counts::PlanCounts;
 use crate::generation::run_counts::RunCounts;
 use crate::generation::situation_counts::SituationCounts;
-use crate::generation::{cases_of_kind, kind_of_case, Case, KINDS};
+use crate::generation::{cases_of_kind, kind_of_case, place_of_kind, Case, KINDS, PERIODS};
 use crate::refusal::{Refusal, REFUSALS};
 
 /// The counts of one entry.
@@ -38,6 +39,7 @@ pub struct KindCounts {
     pub accepted: usize,
     pub refused: usize,
     pub neighbours: ByEntry<SituationCounts>,
+    pub orders: OrderCounts,
 }
 
 /// All counts.
@@ -50,10 +52,14 @@ pub struct Summary {
     /// By the kind's place.
     pub kinds: [KindCounts; KINDS.len()],
     pub plans: PlanCounts,
+    pub orders: OrderCounts,
     pub long_deadlines: ByEntry<RunCounts>,
     pub delays: DelayCounts,
     pub breakdowns: FeatureCounts,
 }
+
+/// Counts with their names.
+type Lines = fn(&OrderCounts) -> Vec<(&'static str, usize)>;
 
 impl Summary {
     /// The counts of the cases from case 0 on.
@@ -88,7 +94,12 @@ impl Summary {
             kind.neighbours.entries[place].count(&answered);
             self.long_deadlines.entries[place].count(&answered);
             match input.head {
-                PLAN => self.plans.count(&answered),
+                PLAN => {
+                    let orders = OrderCounts::of_case(&answered);
+                    kind.orders.add(&orders);
+                    self.orders.add(&orders);
+                    self.plans.count(&answered);
+                }
                 BREAKDOWN => self.breakdowns.count(&answered),
                 _ => {}
             }
@@ -143,6 +154,24 @@ impl Summary {
         }
         Ok(())
     }
+
+    /// Writes counts of all cases of the planner beside those of the kind that is drawn for the
+    /// order of the sets.
+    fn write_orders(&self, formatter: &mut fmt::Formatter<'_>) -> fmt::Result {
+        let of_kind = &self.kinds[place_of_kind(&PERIODS)].orders;
+        let parts: [(&str, Lines); 2] = [
+            ("periods in accepted cases of plan", OrderCounts::lines),
+            ("other plans if sets went by", OrderCounts::told_lines),
+        ];
+        for (title, lines) in parts {
+            let (all, kind) = ("all", PERIODS.name);
+            writeln!(formatter, "\n{title:<44}{all:>8}{kind:>10}")?;
+            for ((name, all), (_, kind)) in lines(&self.orders).iter().zip(lines(of_kind)) {
+                writeln!(formatter, "{name:<44}{all:>8}{kind:>10}")?;
+            }
+        }
+        Ok(())
+    }
 }
 
 impl RefusalCounts {
@@ -170,7 +199,9 @@ fn is_earlier_record(one: Option<Place>, other: Option<Place>) -> bool {
 impl fmt::Display for Summary {
     fn fmt(&self, formatter: &mut fmt::Formatter<'_>) -> fmt::Result {
         self.write_answers(formatter)?;
-        writeln!(formatter, "\n{}", self.plans)?;
+        write!(formatter, "\n{}", self.plans)?;
+        self.write_orders(formatter)?;
+        writeln!(formatter)?;
         self.long_deadlines
             .write(formatter, "jobs placed with a D above T")?;
         for (kind, counts) in KINDS.iter().zip(&self.kinds) {

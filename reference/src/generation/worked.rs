@@ -43,9 +43,10 @@ pub const fn with_quanta(lowest: u8, highest: u8, call: Worked) -> Worked {
     }
 }
 
-/// The first and the second exam list, and nine jobs and eight.
+/// The first, the second and the fourth exam list, and nine jobs and eight.
 pub const ONE: List = &[(1, 0, 2, 5, 5)];
 pub const TWO: List = &[(1, 0, 6, 8, 8), (2, 0, 5, 22, 22)];
+pub const THREE: List = &[(1, 0, 1, 4, 4), (2, 0, 2, 6, 6), (3, 0, 3, 12, 12)];
 pub const NINE: List = &[
     (1, 0, 1, 100, 100),
     (2, 0, 1, 100, 100),
@@ -80,24 +81,29 @@ pub const FALLING: &[[u8; 4]] = &[
     [8, 1, 2, 4],
 ];
 
+/// The jobs of a list.
+pub fn jobs_of_list(list: List) -> Vec<Job> {
+    let mut jobs = Vec::new();
+    for (id, delay, cost, period, deadline) in list {
+        jobs.push(Job {
+            id: *id,
+            delay: *delay,
+            ..job_of_times(*cost, *period, *deadline)
+        });
+    }
+    jobs
+}
+
 impl Worked {
     /// The input frame of the call of an entry.
     pub fn input(&self, random: &mut Random, entry: u8) -> Frame {
-        let mut jobs = Vec::new();
-        for (id, delay, cost, period, deadline) in self.jobs {
-            jobs.push(Job {
-                id: *id,
-                delay: *delay,
-                ..job_of_times(*cost, *period, *deadline)
-            });
-        }
         let mut numbers = vec![self.quanta.lowest, self.quanta.highest];
         numbers.extend(self.priorities.into_iter().flatten());
         Frame {
             head: entry,
             numbers: numbers.into_iter().map(u16::from).collect(),
             blocks: vec![
-                records_of_jobs(&jobs),
+                records_of_jobs(&jobs_of_list(self.jobs)),
                 self.records.concat(),
                 random.filled(self.lent),
             ],

@@ -4,7 +4,7 @@ use reference::configuration::{QuantumRange, Setting, NOT_PLACED};
 use reference::generation::long_deadlines::finish_by_recurrence;
 use reference::generation::random::Random;
 use reference::jobs::Job;
-use reference::planner::{plan_jobs, plan_jobs_within, Plan};
+use reference::planner::{plan_jobs, plan_jobs_by, Plan, Rules, RULES};
 use reference::response_time::{finish_by_search, first_run, second_run, BoundRule};
 
 /// Compares the runs of all placed jobs by the recurrence with those by the search.
@@ -30,7 +30,10 @@ pub fn plan_by_both_rules(random: &mut Random, jobs: &[Job]) -> Plan {
         highest: random.byte(lowest, 9),
     };
     let plan = plan_jobs(jobs, range);
-    let by_first = plan_jobs_within(jobs, range, BoundRule::First, u64::MAX);
-    assert_eq!(by_first.as_ref(), Ok(&plan), "{jobs:?} {range:?}");
+    let rules = Rules {
+        bound: BoundRule::First,
+        ..RULES
+    };
+    assert_eq!(plan_jobs_by(jobs, range, rules), plan, "{jobs:?} {range:?}");
     plan
 }

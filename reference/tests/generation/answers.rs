@@ -1,21 +1,21 @@
 //! What must hold of the answers of all stored cases.
 
 use reference::breakdown::BREAKDOWN_BYTES;
-use reference::configuration::{put_settings, QuantumRange, SETTING_BYTES};
+use reference::configuration::{put_settings, SETTING_BYTES};
 use reference::entries::{
     answer, BOUNDS, BREAKDOWN, EDIT, FROM_KERNEL, KEY, MARK, PLAN, READ_CONFIGURATION, READ_JOBS,
     SAME_BYTES, TO_KERNEL, WRITE_CONFIGURATION, WRITE_JOBS,
 };
 use reference::frames::{frames_of_file, Frame};
 use reference::generation::Case;
-use reference::jobs::{jobs_of_records, Job};
+use reference::jobs::jobs_of_records;
 use reference::kernel::KERNEL_BYTES;
 use reference::key::text_of_plan;
-use reference::planner::{plan_jobs_within, Plan};
+use reference::planner::{plan_jobs_by, Rules, RULES};
 use reference::refusal::{Refusal, REFUSALS};
 use reference::response_time::{put_bounds, BoundRule, BOUND_BYTES};
 
-use crate::{job_records, stored};
+use crate::{job_records, planned, stored};
 
 #[test]
 fn stored_frames_are_read_back_from_their_files() {
@@ -124,23 +124,19 @@ fn the_count_of_sets_considered_is_below_two_to_the_power_of_the_jobs() {
     }
 }
 
-/// The planner's answer by the first bound alone.
-fn plan_by_first_bound(jobs: &[Job], lowest: u8, highest: u8) -> Plan {
-    let range = QuantumRange { lowest, highest };
-    plan_jobs_within(jobs, range, BoundRule::First, u64::MAX)
-        .expect("no search tries that many lists")
-}
-
 #[test]
 fn plans_and_keys_are_the_same_by_the_first_bound_alone() {
+    let rules = Rules {
+        bound: BoundRule::First,
+        ..RULES
+    };
     let mut compared = 0;
     for (number, case) in stored().iter().enumerate() {
         let Case { input, output } = case;
-        if !matches!(input.head, PLAN | KEY) || !case.faults().is_empty() {
+        let Some((jobs, range)) = planned(case) else {
             continue;
-        }
-        let [low, high] = [input.numbers[0], input.numbers[1]].map(|number| number as u8);
-        let plan = plan_by_first_bound(&job_records(case), low, high);
+        };
+        let plan = plan_jobs_by(&jobs, range, rules);
         let mut expected = output.clone();
         if input.head == KEY {
             expected.blocks = vec![text_of_plan(&plan).into_bytes()];

@@ -9,20 +9,21 @@ mod kernel_readings;
 mod kernel_records;
 mod long_blocks;
 mod minimums;
+mod periods;
 mod readings;
 mod refused;
 
 use std::sync::OnceLock;
 
-use reference::configuration::{settings_of_records, Setting};
-use reference::entries::{BOUNDS, EDIT, MARK, SAME_BYTES, WRITE_JOBS};
+use reference::configuration::{settings_of_records, QuantumRange, Setting};
+use reference::entries::{BOUNDS, EDIT, KEY, MARK, PLAN, SAME_BYTES, WRITE_JOBS};
 use reference::generation::rounds::Kind;
 use reference::generation::{cases, cases_of_kind, entry_of_case, input_of_case, Case, KINDS};
 use reference::jobs::{jobs_of_records, Job};
 use reference::response_time::{bounds_of_records, BOUND_BYTES};
 
 /// How many cases are stored.
-const STORED: usize = 9_300;
+const STORED: usize = 10_200;
 
 /// The stored cases.
 fn stored() -> &'static [Case] {
@@ -52,6 +53,15 @@ fn job_records(case: &Case) -> Vec<Job> {
         SAME_BYTES => Vec::new(),
         _ => jobs_of_records(&case.input.blocks[0]),
     }
+}
+
+/// The jobs and the range of an accepted case of the entries that are to find a configuration.
+fn planned(case: &Case) -> Option<(Vec<Job>, QuantumRange)> {
+    if !matches!(case.input.head, PLAN | KEY) || !case.faults().is_empty() {
+        return None;
+    }
+    let [lowest, highest] = [0, 1].map(|place| case.input.numbers[place] as u8);
+    Some((job_records(case), QuantumRange { lowest, highest }))
 }
 
 /// The jobs that refusal 5 of a call is about. A table with a count above 8 has none, as its
