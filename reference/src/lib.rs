@@ -14,6 +14,7 @@ pub mod kernel;
 pub mod key;
 pub mod marker;
 pub mod planner;
+pub mod program;
 pub mod quanta;
 pub mod refusal;
 pub mod response_time;

@@ -1,11 +1,12 @@
 //! Writes cases to two files, checks two files against the cases, or prints what the cases hold.
 
+use std::fs;
 use std::process::ExitCode;
-use std::{env, fs};
 
 use reference::frames::{first_difference, Frame};
 use reference::generation::cases;
 use reference::generation::summary::Summary;
+use reference::program::run_with_arguments;
 
 const USAGE: &str = "usage: cases SEED COUNT INPUT OUTPUT
        cases --check SEED COUNT INPUT OUTPUT
@@ -78,13 +79,5 @@ fn run(arguments: &[&str]) -> Result<(), String> {
 }
 
 fn main() -> ExitCode {
-    let arguments: Vec<String> = env::args().skip(1).collect();
-    let arguments: Vec<&str> = arguments.iter().map(String::as_str).collect();
-    match run(&arguments) {
-        Ok(()) => ExitCode::SUCCESS,
-        Err(message) => {
-            eprintln!("{message}");
-            ExitCode::FAILURE
-        }
-    }
+    run_with_arguments(run)
 }

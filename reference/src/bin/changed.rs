@@ -1,13 +1,14 @@
 //! Writes the stored keys that E7 changes to a file, or checks the file.
 
+use std::fs;
 use std::path::Path;
 use std::process::ExitCode;
-use std::{env, fs};
 
 use reference::changed_keys::{
     first_differing_line, key_of_list, keys_of_blocks, keys_of_cases, text_of_parts, Part,
     StoredKey, BLOCKS_BEFORE, CASES_BEFORE, LISTS_BEFORE,
 };
+use reference::program::run_with_arguments;
 
 const USAGE: &str = "usage: changed FOLDER
        changed --check FOLDER";
@@ -77,13 +78,5 @@ fn run(arguments: &[&str]) -> Result<(), String> {
 }
 
 fn main() -> ExitCode {
-    let arguments: Vec<String> = env::args().skip(1).collect();
-    let arguments: Vec<&str> = arguments.iter().map(String::as_str).collect();
-    match run(&arguments) {
-        Ok(()) => ExitCode::SUCCESS,
-        Err(message) => {
-            eprintln!("{message}");
-            ExitCode::FAILURE
-        }
-    }
+    run_with_arguments(run)
 }

@@ -19,6 +19,19 @@ pub struct Configured {
     pub settings: Vec<Setting>,
 }
 
+impl Configured {
+    /// One job more, alone on its level.
+    pub fn push_alone(&mut self, job: Job, level: u8) {
+        self.jobs.push(job);
+        self.settings.push(Setting {
+            id: 0,
+            level,
+            policy: FIFO,
+            quantum: 0,
+        });
+    }
+}
+
 /// The setting of a member of a layer of so many jobs.
 pub fn member_setting(random: &mut Random, level: u8, size: usize, range: QuantumRange) -> Setting {
     let (policy, quantum) = if size == 1 {

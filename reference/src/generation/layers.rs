@@ -1,7 +1,7 @@
 //! Lists built layer by layer together with a configuration that passes, with deadlines at the
 //! first bounds or close to them.
 
-use crate::configuration::{QuantumRange, Setting, FIFO, ROUND_ROBIN};
+use crate::configuration::{QuantumRange, ROUND_ROBIN};
 use crate::generation::configured::{any_configured, member_setting, mixed, reorder, Configured};
 use crate::generation::lists::{give_ids, job_of_times, light, stretched, SCALES};
 use crate::generation::random::Random;
@@ -169,13 +169,7 @@ fn two_short_jobs(random: &mut Random) -> Configured {
     for level in 1..=2 {
         let cost = random.ticks(1, 2);
         let period = random.ticks(60, 600) * random.choose(&[1, 1, 100]);
-        list.jobs.push(job_of_times(cost, period, period));
-        list.settings.push(Setting {
-            id: 0,
-            level,
-            policy: FIFO,
-            quantum: 0,
-        });
+        list.push_alone(job_of_times(cost, period, period), level);
     }
     list
 }

@@ -1,7 +1,7 @@
 //! Lists whose plan depends on the order of the sets: they are drawn until a wrong order would give
 //! another answer.
 
-use crate::configuration::{QuantumRange, Setting, FIFO, ROUND_ROBIN};
+use crate::configuration::{QuantumRange, Setting, ROUND_ROBIN};
 use crate::generation::configured::Configured;
 use crate::generation::delays::LAYER_RULES;
 use crate::generation::layers::{
@@ -48,13 +48,7 @@ fn top_jobs(random: &mut Random, count: usize, are_stuck: bool) -> Configured {
     for (level, cost) in (1..).zip(costs) {
         let deadline = if are_stuck && level <= 2 { cost } else { sum };
         let period = random.ticks(20, 600) * random.choose(&[1, 1, 1, 100]);
-        list.jobs.push(job_of_times(cost, period, deadline));
-        list.settings.push(Setting {
-            id: 0,
-            level,
-            policy: FIFO,
-            quantum: 0,
-        });
+        list.push_alone(job_of_times(cost, period, deadline), level);
     }
     list
 }
