@@ -1,5 +1,5 @@
--- The order in which the planner tries sets, the walk along it, and which sets are considered (01, "The planner's answer").
--- A sequence is any list of set numbers; `order` is the one that the planner uses. Assumes nothing.
+-- 01's order of the sets of jobs, the walk along a sequence of sets, and which sets are considered (01, "The planner's answer").
+-- A sequence is any list of set numbers; `order` is 01's, which the planner's own order sorts within each size (periods). Assumes nothing.
 use Prim.Native.Nat.{ℕ, zero, suc, _+_, _-_, _^_, _≤_, _<_}
 use mathlib.Core.Path.{_≡_}
 use mathlib.Core.Bool.{Bool, true, false, cond}

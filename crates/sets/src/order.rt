@@ -1,4 +1,4 @@
-// The order in which sets of jobs are tried, and the walk along it.
+// The table of the sets of eight jobs, and the walk along a sequence of sets.
 ghost use mathlib.Core.Path.{_≡_};
 ghost use lib.ListN.{drop};
 ghost use Rattle.sets.specs.Order.{order, nextFrom};
