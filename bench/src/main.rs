@@ -18,6 +18,8 @@ mod plain;
 mod pruned;
 mod random;
 mod report;
+// Where another version is the other side, its entries are called in place of these.
+#[cfg_attr(before, allow(dead_code))]
 mod same;
 mod timing;
 
