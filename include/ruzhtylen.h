@@ -66,9 +66,9 @@ uint32_t ruzhtylen_breakdown(const uint8_t *jobs, size_t jobs_length, uint8_t lo
                              uint8_t *output, size_t output_length);
 
 /* Writes a configuration, four bytes for each job, and its bounds, two bytes for each job.
-   Levels are filled from the lowest up, each by the first set of jobs that can be taken: smaller sets first, among those of one size that
-   with the larger sum of periods, among those of one sum that with the smaller number (the first job is 1, the second 2, the third 4 and
-   so on).
+   Levels are filled from the lowest up, each by the first set of the jobs not yet placed that can be served with the rest of these above:
+   smaller sets first, among those of one size that with the larger sum of periods, among those of one sum that with the smaller number
+   (the first job is 1, the second 2, the third 4 and so on).
    Byte 1: the placed set; bytes 2 and 3: the count of sets considered, the low byte first. */
 uint32_t ruzhtylen_plan(const uint8_t *jobs, size_t jobs_length, uint8_t low, uint8_t high,
                         uint8_t *configuration, size_t configuration_length,

@@ -139,9 +139,10 @@ const ABOUT: &str = "\
 # file, and `reference/changed --check` says whether it is as written.
 #
 # A key has its name, then its answer in 01's order of sets (-) and in E7's (+): the jobs placed,
-# the sets considered, and for each job its id, level, policy, quantum and bound. A case of the
-# entry key is stored without the sets considered, so they are left out there. Blocks and cases are
-# numbered from 0. What was stored later is not here: it had one answer only.
+# the sets considered, and for each job its id, level, policy, quantum and bound. E7 tells of the
+# sets considered too, so a list and a block count as changed where these alone change, as in K7. A
+# case of the entry key has its text alone, without them. Blocks and cases are numbered from 0. What
+# was stored later is not here: it had one answer only.
 #
 ";
 

@@ -17,11 +17,11 @@ use Rattle.assignment.proofs.AnyPlay.{any-order}
 
 module _ (jobs : List Job) (costs : Costs jobs) (few : length jobs ≤ places) where
   -- For any rule on quanta and its search.
-  pub same-placed : (low high : ℕ) (Permit : List ℕ → Set → Type 0) (find : ℕ → ℕ → Option (List ℕ)) → Finds jobs low high Permit find
+  pub either-order : (low high : ℕ) (Permit : List ℕ → Set → Type 0) (find : ℕ → ℕ → Option (List ℕ)) → Finds jobs low high Permit find
       → planBy jobs find (byPeriods jobs) .placed ≡ planBy jobs find order .placed
-  same-placed low high Permit find F = any-order jobs costs low high Permit find F few (byPeriods jobs) order (periods-all jobs) number-all
+  either-order low high Permit find F = any-order jobs costs low high Permit find F few (byPeriods jobs) order (periods-all jobs) number-all
 
   -- Of the plan of a list and a range.
   pub both-orders : (low high : ℕ) → 0 < low → low ≤ high → plan jobs low high .placed ≡ planByNumber jobs low high .placed
   unfolding plan planByNumber
-  both-orders low high lp lh = same-placed low high (Permitted (length jobs) low high) (quantaFor jobs low high) (per-job jobs costs low high lp lh)
+  both-orders low high lp lh = either-order low high (Permitted (length jobs) low high) (quantaFor jobs low high) (per-job jobs costs low high lp lh)

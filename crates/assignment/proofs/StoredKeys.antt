@@ -144,7 +144,7 @@ module _ (jobs : List Job) (costs : Costs jobs) (few : length jobs ≤ places) w
       pick false true b f g = absurd (false≢true (f refl))
       pick false false b f g = refl
 
-  -- "The second bound of a job in a set is the bound that the job has alone with the rest above."
+  -- The second bound of a job in a set is the bound that the job has alone with the rest above.
   pub second-is-alone : (r s k : ℕ) (q q′ : List ℕ) → Of n r s → k < n → has s k ≡ true
       → secondBound jobs q (has s) (has (rest r s)) k ≡ bound jobs q′ (has (single k)) (has (rest r (single k))) k
   second-is-alone r s k q q′ o l e =
@@ -246,7 +246,7 @@ module _ (jobs : List Job) (costs : Costs jobs) (few : length jobs ≤ places) w
       found-taken : 0 < taken r → find r (taken r) ≡ findFirst r (taken r)
       found-taken p = ⊎-elim (λ e. e) (λ w. absurd (omega (arith, first-least test tried rising (w .0) (w .1) (w .3), w .2))) (either (taken r) (taken-in test tried p))
 
-      -- "A set of two or more is taken only where every second bound is 0."
+      -- A set of two or more is taken only where every second bound is 0.
       pub taken-second : 2 ≤ size (taken r) → (k : ℕ) (q : List ℕ) → k < n → has (taken r) k ≡ true → secondBound jobs q (has (taken r)) (has (rest r (taken r))) k ≡ 0
       taken-second two k q l e =
           let o = tried-of (taken r) (taken-in test tried (has-pos (taken r) k e)) .0 in
@@ -326,7 +326,7 @@ module _ (jobs : List Job) (costs : Costs jobs) (few : length jobs ≤ places) w
         ap₂ (λ (end : Stage) (count : ℕ). record { placed = rest (firstJobs n) (end .left); considered = count; settings = end .settings; bounds = end .bounds })
         (same-stages n (start jobs) (start-less jobs few)) (same-count n (firstJobs n) (start-less jobs few))
 
-  -- "The planner's answers therefore stay."
+  -- So the planner's answers stay.
   pub keys-stay : (low high : ℕ) → 0 < low → low ≤ high → plan jobs low high ≡ planWith (firstBound jobs) jobs low high
   unfolding plan
   keys-stay low high lp lh = same-plan low high lp lh (byPeriods jobs) (periods-all jobs) (periods-by-size jobs)

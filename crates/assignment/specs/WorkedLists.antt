@@ -24,16 +24,19 @@ pub data Answer : Type 0 where
   planned : ℕ → ℕ → List Setting → List ℕ → Answer
   marked : List ℕ → Bool → Answer
 
+-- The answer that the planner's rule or the test gives.
 unfoldable pub answered : Question → Answer
 answered (plans jobs low high) = let p = plan jobs low high in planned (p .placed) (p .considered) (p .settings) (p .bounds)
 answered (marks jobs settings) = marked (boundsOf jobs settings) (passes jobs settings)
 
+-- The jobs of K2, K3, K5 and K6, and those of K7.
 abbrev k2 : List Job
 k2 = job 1 6 8 8 ∷ job 2 5 22 22 ∷ []
 
 abbrev k7 : List Job
 k7 = job 1 6 8 8 ∷ job 2 5 23 23 ∷ []
 
+-- K1 to K9 in turn, K7 marked and planned.
 unfoldable pub cases : List (Question × Answer)
 cases =
     (plans (job 1 2 5 5 ∷ []) 1 4, planned 1 1 (set 1 1 1 0 ∷ []) (2 ∷ []))

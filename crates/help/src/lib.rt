@@ -36,7 +36,8 @@ fn key(fd: i32) -> bool {
 Prints a line per job, id level policy quantum bound, and how many are placed.
 Level 1 runs first; policy 1 is sched_fifo, 2 is sched_rr; a job left over has zeros.
 Levels are filled from the lowest up, by smaller sets of jobs first, among those of one
-size by longer periods: so longer periods go lower where that passes.
+size by the larger sum of periods, then by the smaller number of the set, in which the
+jobs count 1, 2, 4 and so on. So longer periods go lower where that passes.
 Where all are placed the configuration passes, and the status is 0. Where jobs are left,
 no configuration of the list in that range passes, which is proved, and the status is 1.
 ",

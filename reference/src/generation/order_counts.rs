@@ -20,8 +20,8 @@ pub struct OrderCounts {
     /// By the place of a wrong order, cases that answer another plan by it. A case is not counted
     /// if a search for one of the two plans is not affordable.
     pub told: [usize; WRONG_ORDERS.len()],
-    /// Cases with equal sums of other periods in which the number decides between sets of two jobs
-    /// or more.
+    /// Cases with equal sums of other periods that answer another plan if among sets of two jobs or
+    /// more of one sum the larger number is first.
     pub decided_by_number: usize,
 }
 
