@@ -1,4 +1,6 @@
 // Where the ticks of a configuration's bounds go (02, E6).
+#![tactic(auto)]
+
 ghost use Rattle.records.specs.Refusals.{verdict};
 ghost use Rattle.breakdown.specs.Promises.{BreakdownPromise};
 

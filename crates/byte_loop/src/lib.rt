@@ -1,4 +1,6 @@
 // The test for same bytes one byte at a time, for callers in Rust: bench/ measures `same_bytes` against it.
+#![tactic(auto)]
+
 ghost use Rattle.std.specs.Prelude.{◌≡◌};
 ghost use Rattle.same_bytes.specs.Same.{same_bytes};
 

@@ -1,4 +1,6 @@
 // The entries for callers in C and Rust: a slice is a pointer and a length, an answer is a word.
+#![tactic(auto)]
+
 ghost use Rattle.std.specs.Prelude.{◌≡◌};
 ghost use Rattle.records.specs.Refusals.{verdict};
 ghost use Rattle.records.specs.Jobs.{read_jobs};

@@ -1,4 +1,6 @@
 // What the words of a command mean: the word for what is asked, the options, a range, and how a name is shown.
+#![tactic(auto)]
+
 ghost use Rattle.std.specs.Prelude.{◌≡◌, map};
 ghost use Rattle.command.specs.Words.{other_word, word_of, is_option, other_argument, argument_of, shown_byte};
 
@@ -7,7 +9,7 @@ use same_bytes::same_bytes;
 pub mod span;
 
 // What is asked.
-#[derive(Drop)]
+#[derive(Clone, Copy)]
 pub enum Word {
     Key,
     Mark,
@@ -22,7 +24,7 @@ pub enum Word {
 }
 
 // What an argument after the word is: an option, the end of the options, or a name.
-#[derive(Drop)]
+#[derive(Clone, Copy)]
 pub enum Argument {
     Quanta,
     Priorities,

@@ -6,7 +6,7 @@ use lists::words;
 use lists::words::{Mark, WordAnswer};
 
 // The lowest and the highest number, or that the word is no range.
-#[derive(Drop)]
+#[derive(Clone, Copy)]
 pub enum Span {
     Between(u8, u8),
     Wrong,
@@ -41,7 +41,7 @@ pub fn read_span(word: &[u8]) -> Span
 }
 
 // The lowest and the highest quantum of a call.
-#[derive(Drop)]
+#[derive(Clone, Copy)]
 pub struct Quanta {
     pub low: u8,
     pub high: u8,

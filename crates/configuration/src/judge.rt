@@ -92,7 +92,7 @@ fn is_levelled(settings: [Setting; Job::MOST], n: usize, setting: Setting) -> bo
 }
 
 // What a setting is held to: refusals 8, 9, 10 and 11.
-#[derive(Drop)]
+#[derive(Clone, Copy)]
 pub enum SettingRule {
     Id,
     Shape,

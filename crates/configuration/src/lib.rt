@@ -1,4 +1,6 @@
 // Settings and configurations: the configuration block and refusals 7 to 11.
+#![tactic(auto)]
+
 pub mod block;
 mod bytes;
 pub mod judge;

@@ -1,5 +1,5 @@
 // The setting of a job: one record of a configuration.
-#[derive(Drop)]
+#[derive(Clone, Copy)]
 pub struct Setting {
     pub id: u8,
     pub level: u8,

@@ -9,7 +9,7 @@ use records::refusal::Verdict;
 pub const ROOM: usize = Job::MOST + 2;
 
 // The answer, and the table after the edit.
-#[derive(Drop)]
+#[derive(Clone, Copy)]
 pub struct Edited {
     pub answer: Verdict,
     pub jobs: [Job; ROOM],

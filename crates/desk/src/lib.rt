@@ -1,4 +1,6 @@
 // The exam desk's edit of one job in the table that it has lent.
+#![tactic(auto)]
+
 ghost use Rattle.std.specs.Prelude.{◌≡◌};
 ghost use Rattle.records.specs.Refusals.{verdict};
 ghost use Rattle.desk.specs.Edits.{judged, edit_outcome};

@@ -1,5 +1,7 @@
 // Edits of one table, for a stored run: an edit that is done, each refusal, and a neighbour that no job block could have and that stays.
 // Each job's delay, which no edit changes, is printed last.
+#![tactic(auto)]
+
 use desk::held::ROOM;
 use libc::STDOUT_FILENO;
 use records::job::Job;

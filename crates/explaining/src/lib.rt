@@ -1,4 +1,6 @@
 // What is printed of where the ticks of a configuration's bounds go: for each job the sum in words and a bar drawn to scale.
+#![tactic(auto)]
+
 ghost use Rattle.std.specs.Prelude.{◌≡◌, ◌+◌, ◌^◌, ◌≤◌, ◌<◌, length};
 ghost use Rattle.records.specs.Limits.{most_jobs};
 ghost use Rattle.records.specs.Refusals.{given};

@@ -45,7 +45,7 @@ pub fn utilisations_of(jobs: [Job; Job::MOST]) -> [u32; Job::MOST]
 }
 
 // What a set of jobs leaves of the processor, and what their delays add at least to their work, in parts of a tick.
-#[derive(Drop)]
+#[derive(Clone, Copy)]
 pub struct Capacity {
     pub spare: u64,
     pub carry: u32,

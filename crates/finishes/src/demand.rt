@@ -43,7 +43,7 @@ pub(crate) fn interference(jobs: [Job; Job::MOST], above: u8, t: u32) -> u64
 }
 
 // The work of two sets of jobs.
-#[derive(Drop)]
+#[derive(Clone, Copy)]
 pub(crate) struct Works {
     pub long: u64,
     pub short: u64,

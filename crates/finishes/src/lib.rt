@@ -1,4 +1,6 @@
 // One finish of a job: the least time that equals its demand, by iteration.
+#![tactic(auto)]
+
 pub mod capacity;
 pub mod demand;
 pub mod finish;

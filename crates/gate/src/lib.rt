@@ -1,4 +1,6 @@
 // The start gate's entries: the planner and the marker for a box with limits (02, E8).
+#![tactic(auto)]
+
 ghost use Rattle.limits.specs.Boxes.{gate_limits};
 ghost use Rattle.marker.specs.Marks.{mark_answer};
 ghost use Rattle.planner.specs.Plans.{answered};

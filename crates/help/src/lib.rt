@@ -1,4 +1,6 @@
 // What help says of each word.
+#![tactic(auto)]
+
 use command::Word;
 
 fn all_words(fd: i32) -> bool {

@@ -14,7 +14,7 @@ use records::range::Range;
 use records::refusal::{Counted, Refusal, Verdict};
 
 // The number of records, with the table beside it. The table is blank past the records; where the block is refused, all of it is blank.
-#[derive(Drop)]
+#[derive(Clone, Copy)]
 pub struct KernelsRead {
     pub answer: Counted,
     pub kernels: [KernelRecord; Job::MOST],

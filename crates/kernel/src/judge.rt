@@ -69,7 +69,7 @@ fn is_prioritised(kernels: [KernelRecord; Job::MOST], n: usize, kernel: KernelRe
 }
 
 // What a kernel record is held to: refusals 8, 14, 9 and 10.
-#[derive(Drop)]
+#[derive(Clone, Copy)]
 pub enum KernelRule {
     Id,
     Top,

@@ -1,4 +1,6 @@
 // Tables for the box loader: kernel records, and the conversion of configurations to them and back (02, E5).
+#![tactic(auto)]
+
 ghost use Rattle.records.specs.Refusals.{verdict};
 ghost use Rattle.kernel.specs.Promises.{ToKernelPromise, FromKernelPromise};
 

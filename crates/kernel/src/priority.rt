@@ -3,11 +3,11 @@ ghost use Rattle.std.specs.Prelude.{◌≡◌};
 ghost use Rattle.kernel.specs.Priorities.{priority_of, level_of};
 
 // The level of a configuration: the smaller runs first.
-#[derive(Drop)]
+#[derive(Clone, Copy)]
 pub struct Level(pub u8);
 
 // The priority of a kernel: the larger runs first.
-#[derive(Drop)]
+#[derive(Clone, Copy)]
 pub struct KernelPriority(pub u8);
 
 // The priority of a level, level 1 having the highest: highest - v + 1. No entry; level 0, which no placed job has, is taken as level 1,

@@ -1,7 +1,7 @@
 // The kernel record of a job: one record of what a loader reads.
 use crate::priority::KernelPriority;
 
-#[derive(Drop)]
+#[derive(Clone, Copy)]
 pub struct KernelRecord {
     pub id: u8,
     pub policy: u8,

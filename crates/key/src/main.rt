@@ -1,4 +1,6 @@
 // The key program: a job block from standard input, and its key on standard output. What it decides is in `text::program`.
+#![tactic(auto)]
+
 use libc::{STDIN_FILENO, STDOUT_FILENO};
 
 fn main() {

@@ -1,5 +1,7 @@
 // Keys of several job blocks, one after the other: each block on standard input stands after its lowest quantum, its highest quantum
 // and its length in bytes.
+#![tactic(auto)]
+
 use libc::{STDIN_FILENO, STDOUT_FILENO};
 
 // A loop has to end: after more blocks than anyone can write.

@@ -1,4 +1,6 @@
 // The limits of a box, and the way in with limits: a job block and a range, as an accepted question or as its refusal (02, E8).
+#![tactic(auto)]
+
 ghost use Rattle.std.specs.Prelude.{◌≡◌};
 ghost use Rattle.records.specs.Calls.{asked};
 ghost use Rattle.records.specs.Refusals.{answer, verdict};
@@ -10,7 +12,7 @@ use records::range::Range;
 use records::refusal::{Counted, Refusal, Verdict};
 
 // The most jobs and the highest quantum that a box takes.
-#[derive(Drop)]
+#[derive(Clone, Copy)]
 pub struct Limits {
     pub jobs: usize,
     pub quantum: u8,

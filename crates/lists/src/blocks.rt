@@ -15,7 +15,7 @@ pub const SIZE: usize = Job::SIZE * Job::MOST;
 
 // The number of records, or the first faulty line; beside it the block, whose size is given, with the number of each record's line, and the
 // range that the text says. What stands beside a faulty line says nothing.
-#[derive(Drop)]
+#[derive(Clone, Copy)]
 pub struct BlockRead {
     pub answer: RowsAnswer,
     pub bytes: [u8; SIZE],

@@ -1,5 +1,5 @@
 // What can be wrong with a line of a text.
-#[derive(Drop)]
+#[derive(Clone, Copy)]
 pub enum Fault {
     // The word at a place of its line, counted from 1, is no number, or is above the limit that stands beside it.
     NotANumber(u8),

@@ -10,7 +10,7 @@ use crate::words::{Mark, WordAnswer};
 use same_bytes::same_bytes;
 
 // What a line holds: the numbers of a job, of a setting, of a kernel record, or those of a range.
-#[derive(Drop)]
+#[derive(Clone, Copy)]
 pub enum Form {
     Job,
     Setting,
@@ -19,7 +19,7 @@ pub enum Form {
 }
 
 // The numbers of a line; those that are missing are 0.
-#[derive(Drop)]
+#[derive(Clone, Copy)]
 pub struct Row {
     pub first: u16,
     pub second: u16,
@@ -40,7 +40,7 @@ impl Row {
 }
 
 // What reading the fields of a line answers.
-#[derive(Drop)]
+#[derive(Clone, Copy)]
 pub enum FieldsAnswer {
     Read(Row),
     Wrong(Fault),

@@ -1,4 +1,6 @@
 // Texts: job lists, configurations and kernel records.
+#![tactic(auto)]
+
 pub mod blocks;
 pub mod fault;
 pub mod fields;

@@ -11,7 +11,7 @@ use records::job::Job;
 use same_bytes::same_bytes;
 
 // What a line holds.
-#[derive(Drop)]
+#[derive(Clone, Copy)]
 pub enum LineAnswer {
     Skipped,
     Found(Row),
@@ -20,7 +20,7 @@ pub enum LineAnswer {
 }
 
 // What reading a text answers: the number of rows, or the first faulty line, counted from 1, and what is wrong with it.
-#[derive(Drop)]
+#[derive(Clone, Copy)]
 pub enum RowsAnswer {
     Rows(usize),
     Faulty(usize, Fault),
@@ -28,7 +28,7 @@ pub enum RowsAnswer {
 
 // The answer, and beside it the rows with the numbers of their lines, and the range that the text says; what stands beside a faulty line
 // says nothing.
-#[derive(Drop)]
+#[derive(Clone, Copy)]
 pub struct RowsRead {
     pub answer: RowsAnswer,
     pub rows: [Row; Job::MOST],

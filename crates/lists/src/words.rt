@@ -5,7 +5,7 @@ ghost use Rattle.lists.specs.Words.{is_blank, is_mark, is_digit, before, number_
 use crate::fault::Fault;
 
 // The bytes that a search stops at: `Word` is any byte but a blank.
-#[derive(Drop)]
+#[derive(Clone, Copy)]
 pub enum Mark {
     LineEnd,
     Comment,
@@ -16,7 +16,7 @@ pub enum Mark {
 }
 
 // A word read as a number.
-#[derive(Drop)]
+#[derive(Clone, Copy)]
 pub enum WordAnswer {
     Number(u16),
     Wrong(Fault),

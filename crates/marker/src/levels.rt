@@ -11,7 +11,7 @@ use records::job::Job;
 use search::workload::Workload;
 
 // How a level stands to another.
-#[derive(Drop)]
+#[derive(Clone, Copy)]
 pub enum Relation {
     Same,
     Above,

@@ -1,4 +1,6 @@
 // The bounds of a configuration, and the marker.
+#![tactic(auto)]
+
 ghost use Rattle.std.specs.Prelude.{◌≡◌, take};
 ghost use Rattle.records.specs.Refusals.{verdict};
 ghost use Rattle.marker.specs.Marks.{bounds_outcome, mark_answer, mark_hand_in, mark_outcome};
@@ -13,7 +15,7 @@ pub mod levels;
 pub mod table;
 
 // What the marker answers.
-#[derive(Drop)]
+#[derive(Clone, Copy)]
 pub enum MarkAnswer {
     Passes,
     Fails,

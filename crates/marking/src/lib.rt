@@ -1,4 +1,6 @@
 // What is printed of a hand-in that is marked: a line per job, and whether it passes; and the bounds of a configuration, in a key's lines.
+#![tactic(auto)]
+
 ghost use Rattle.std.specs.Prelude.{◌≡◌, ◌+◌, ◌≤◌, ◌<◌, min, length};
 ghost use Rattle.std.proofs.lemmas.List.Edits.{sets};
 ghost use Rattle.records.specs.Limits.{most_jobs};

@@ -12,7 +12,7 @@ use records::job::Job;
 pub const SIZE: usize = 820;
 
 // How a record is named: by its line in a text, or by its place in a block.
-#[derive(Drop)]
+#[derive(Clone, Copy)]
 pub enum Naming {
     Line,
     Record,

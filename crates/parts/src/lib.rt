@@ -1,5 +1,7 @@
 // The parts of a bound: where its ticks go (02, E6). The instance that decides is sought again from the bound that was found, so that the
 // search for bounds carries no instance; its finish follows from the bound.
+#![tactic(auto)]
+
 ghost use Rattle.std.specs.Prelude.{◌≡◌, cond, ◌+◌, ◌-◌, ◌*◌, ◌^◌, ◌<◌, ◌≤◌, eqb};
 ghost use Rattle.sets.specs.Sets.{has, single, join};
 ghost use Rattle.records.specs.Limits.{most_jobs};

@@ -11,7 +11,7 @@ use records::job::Job;
 use sets::order::Next;
 
 // The first set that can be taken, with its quanta, and the number of sets considered; the set is 0 where none can be taken.
-#[derive(Drop)]
+#[derive(Clone, Copy)]
 pub struct Choice {
     pub set: u8,
     pub quanta: [u8; Job::MOST],

@@ -18,7 +18,7 @@ use periods::sums::ALL;
 use records::job::Job;
 
 // The plan so far: the jobs not yet placed, the number of sets considered, the settings and the bounds.
-#[derive(Drop)]
+#[derive(Clone, Copy)]
 pub struct Progress {
     pub left: u8,
     pub considered: u16,

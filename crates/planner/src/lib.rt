@@ -1,4 +1,6 @@
 // The planner: from the lowest level up, the first set of jobs that can be taken with the rest above.
+#![tactic(auto)]
+
 ghost use Rattle.planner.specs.Plans.{answered, Promise};
 
 use records::refusal::{Counted, Refusal};
@@ -9,7 +11,7 @@ mod quanta;
 pub mod table;
 
 // What the planner answers: the placed set's number and the count of sets considered.
-#[derive(Drop)]
+#[derive(Clone, Copy)]
 pub enum PlanAnswer {
     Planned(u8, u16),
     Refused(Refusal),

@@ -10,13 +10,13 @@ use records::range::Range;
 use search::workload::Workload;
 
 // How the quanta of a layer are sought: each job has one of its own.
-#[derive(Drop)]
+#[derive(Clone, Copy)]
 pub enum QuantaSearch {
     PerJob,
 }
 
 // What the planner is asked: the jobs with their utilisations, their number, the range of quanta, and how these are sought.
-#[derive(Drop)]
+#[derive(Clone, Copy)]
 pub struct Question {
     pub workload: Workload,
     pub n: usize,
@@ -25,7 +25,7 @@ pub struct Question {
 }
 
 // The quanta of a layer, where there are such.
-#[derive(Drop)]
+#[derive(Clone, Copy)]
 pub struct Quanta {
     pub found: bool,
     pub quanta: [u8; Job::MOST],

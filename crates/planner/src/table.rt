@@ -16,7 +16,7 @@ use search::workload::Workload;
 
 // The number of jobs, and beside it the plan: the placed set's number, the count of sets considered, the settings and the bounds. What
 // stands beside a refusal says nothing.
-#[derive(Drop)]
+#[derive(Clone, Copy)]
 pub struct TablePlan {
     pub answer: Counted,
     pub placed: u8,

@@ -5,7 +5,7 @@ ghost use Rattle.reasons.specs.Reasons.{reason_of, on_whole, unknown};
 use records::job::Job;
 
 // The sentences; `text` has their words.
-#[derive(Drop)]
+#[derive(Clone, Copy)]
 pub enum Sentence {
     NoJobs,
     JobBytes,
@@ -44,7 +44,7 @@ pub enum Sentence {
 }
 
 // A sentence, the place of the record that it is about, 8 where it is about none, and its numbers.
-#[derive(Drop)]
+#[derive(Clone, Copy)]
 pub struct Reason {
     pub sentence: Sentence,
     pub at: usize,

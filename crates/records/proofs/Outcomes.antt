@@ -5,7 +5,6 @@ use mathlib.Core.List.{[], ◌∷◌, ◌++◌, append-nil}
 use mathlib.Core.Bool.{Bool, true, false, false≢true, cond}
 use mathlib.Core.Logic.{◌⊎◌, inl, inr}
 use native.Mathlib.Omega.{arith}
-use lib.Dec.{lit<}
 use Rattle.records.specs.Refusals.{Answer, refused, given, number, Tests, outcome, answer, verdict, handed, refusal_of, turned, Accepts}
 use Rattle.records.specs.declared.refusal.Refusal.{Refusal}
 use Rattle.records.specs.declared.refusal.Refusal.TheVariants.{JobCount, JobId, IdOrder, Place, JobTimes, QuantumRange, ConfigurationSize, ConfigurationIds, RecordShape, LevelSharing, NotPlaced, OutputLength, PriorityRange, KernelPriority, GateLimits}
@@ -119,23 +118,21 @@ accepts-second (t ∷ tests) later h = accepts-second tests later h.1
 
 -- A refusal's number is a byte that is not 0.
 pub number-byte : (refusal : Refusal) → (0 < number refusal) × (number refusal < 256)
-number-byte refusal = elim refusal [
-  | JobCount ↦ (lit< tt, lit< tt)
-  | JobId ↦ (lit< tt, lit< tt)
-  | IdOrder ↦ (lit< tt, lit< tt)
-  | Place ↦ (lit< tt, lit< tt)
-  | JobTimes ↦ (lit< tt, lit< tt)
-  | QuantumRange ↦ (lit< tt, lit< tt)
-  | ConfigurationSize ↦ (lit< tt, lit< tt)
-  | ConfigurationIds ↦ (lit< tt, lit< tt)
-  | RecordShape ↦ (lit< tt, lit< tt)
-  | LevelSharing ↦ (lit< tt, lit< tt)
-  | NotPlaced ↦ (lit< tt, lit< tt)
-  | OutputLength ↦ (lit< tt, lit< tt)
-  | PriorityRange ↦ (lit< tt, lit< tt)
-  | KernelPriority ↦ (lit< tt, lit< tt)
-  | GateLimits ↦ (lit< tt, lit< tt)
-]
+number-byte JobCount = (omega arith, omega arith)
+number-byte JobId = (omega arith, omega arith)
+number-byte IdOrder = (omega arith, omega arith)
+number-byte Place = (omega arith, omega arith)
+number-byte JobTimes = (omega arith, omega arith)
+number-byte QuantumRange = (omega arith, omega arith)
+number-byte ConfigurationSize = (omega arith, omega arith)
+number-byte ConfigurationIds = (omega arith, omega arith)
+number-byte RecordShape = (omega arith, omega arith)
+number-byte LevelSharing = (omega arith, omega arith)
+number-byte NotPlaced = (omega arith, omega arith)
+number-byte OutputLength = (omega arith, omega arith)
+number-byte PriorityRange = (omega arith, omega arith)
+number-byte KernelPriority = (omega arith, omega arith)
+number-byte GateLimits = (omega arith, omega arith)
 
 -- ---- a part of the way in: its answer decides what a call with more tests comes to, whatever tests follow
 

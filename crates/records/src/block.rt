@@ -10,7 +10,7 @@ use crate::refusal::{Counted, Refusal, Verdict};
 use crate::{bytes, judge};
 
 // The number of jobs, with the table beside it. The table is blank past the jobs; where the block is refused, all of it is blank.
-#[derive(Drop)]
+#[derive(Clone, Copy)]
 pub struct JobsRead {
     pub answer: Counted,
     pub table: [Job; Job::MOST],

@@ -8,7 +8,7 @@ use crate::range::{NewRange, Range};
 use crate::refusal::{Counted, Verdict};
 
 // The number of jobs, with their table and the range beside it; what stands beside a refusal says nothing.
-#[derive(Drop)]
+#[derive(Clone, Copy)]
 pub struct Call {
     pub answer: Counted,
     pub table: [Job; Job::MOST],

@@ -6,7 +6,7 @@ ghost use Rattle.records.specs.Jobs.{times_ok, new_job_tests, new_job_answer};
 
 use crate::refusal::Refusal;
 
-#[derive(Drop)]
+#[derive(Clone, Copy)]
 pub struct Job {
     pub id: u8,
     // How late its releases may be noticed, in ticks: the release jitter.
@@ -17,7 +17,7 @@ pub struct Job {
 }
 
 // What making a job answers.
-#[derive(Drop)]
+#[derive(Clone, Copy)]
 pub enum NewJob {
     Made(Job),
     Refused(Refusal),

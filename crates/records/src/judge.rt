@@ -11,7 +11,7 @@ use crate::range::{NewRange, Range};
 use crate::refusal::{Refusal, Verdict};
 
 // What a job is held to: refusals 2, 3 and 5.
-#[derive(Drop)]
+#[derive(Clone, Copy)]
 pub enum JobRule {
     Id,
     Order,

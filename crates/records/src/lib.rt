@@ -1,4 +1,6 @@
 // Refusals, jobs, ranges of quanta, the job block, and what a call asks.
+#![tactic(auto)]
+
 pub mod block;
 mod bytes;
 pub mod call;

@@ -6,14 +6,14 @@ ghost use Rattle.records.specs.Ranges.{range_of, range_tests, new_range_answer};
 use crate::refusal::Refusal;
 
 // The lowest and the highest quantum.
-#[derive(Drop)]
+#[derive(Clone, Copy)]
 pub struct Range {
     pub low: u8,
     pub high: u8,
 }
 
 // What making a range answers.
-#[derive(Drop)]
+#[derive(Clone, Copy)]
 pub enum NewRange {
     Made(Range),
     Refused(Refusal),

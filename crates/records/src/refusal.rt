@@ -3,7 +3,7 @@ ghost use Rattle.std.specs.Prelude.{◌≡◌};
 ghost use Rattle.records.specs.Refusals.{number, refusal_of, verdict_of};
 
 // A case for each line of 01's list, and for those that 02 adds.
-#[derive(Drop)]
+#[derive(Clone, Copy)]
 pub enum Refusal {
     JobCount,
     JobId,
@@ -48,14 +48,14 @@ impl Refusal {
 }
 
 // The answer of a function that gives no value.
-#[derive(Drop)]
+#[derive(Clone, Copy)]
 pub enum Verdict {
     Accepted,
     Refused(Refusal),
 }
 
 // The answer of a function that gives a count: of jobs, of records or of bytes.
-#[derive(Drop)]
+#[derive(Clone, Copy)]
 pub enum Counted {
     Count(usize),
     Refused(Refusal),

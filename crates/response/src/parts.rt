@@ -2,7 +2,7 @@
 
 // In 02's order: the first instance that reaches the bound, which of the two bounds decided (1 or 2), own work, layer share, work from
 // above, the delay J, and the typeof.j.T taken off.
-#[derive(Drop)]
+#[derive(Clone, Copy)]
 pub struct Parts {
     pub instance: u8,
     pub which: u8,

@@ -1,5 +1,7 @@
 // The run of a job's instances: the largest response up to the first instance that finishes by its next release, its delay counted, which
 // is one of the two bounds.
+#![tactic(auto)]
+
 ghost use Rattle.std.specs.Prelude.{◌≡◌, ◌-◌, ◌*◌, ◌^◌, ◌<◌, ◌≤◌};
 ghost use Rattle.sets.specs.Sets.{has};
 ghost use Rattle.response.specs.Demand.{ceil_div};

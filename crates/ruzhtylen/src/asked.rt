@@ -7,7 +7,7 @@ use libc::STDERR_FILENO;
 // The options and the names. What is wrong has been said where it is faulty. The first and the second name are the arguments of these
 // numbers; `inputs` counts those that are standard input; `awaits` is set before the numbers that follow an option, `of_priorities` where
 // these are priorities and no quanta, and `ended` after the end of the options.
-#[derive(Drop)]
+#[derive(Clone, Copy)]
 pub struct Asked {
     pub faulty: bool,
     pub awaits: bool,

@@ -15,7 +15,7 @@ pub fn room() -> [u8; SIZE]
 }
 
 // How many bytes were read; where it is not ok, why has been said.
-#[derive(Drop)]
+#[derive(Clone, Copy)]
 pub struct Got {
     pub ok: bool,
     pub count: usize,

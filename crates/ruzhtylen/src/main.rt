@@ -1,5 +1,7 @@
 // The program behind the command: it reads the files that the arguments name, asks, and writes. Answers go to standard output, messages to
 // standard error, and the status, a digit, to descriptor 3.
+#![tactic(auto)]
+
 mod asked;
 mod files;
 mod hand_ins;

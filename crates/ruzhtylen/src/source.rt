@@ -14,7 +14,7 @@ pub const SIZE: usize = 65;
 
 // The block's first bytes and how many they are; the size of the whole; how its records are named; and the range that a list says. Where it
 // is not ok, why has been said.
-#[derive(Drop)]
+#[derive(Clone, Copy)]
 pub struct Source {
     pub ok: bool,
     pub bytes: [u8; SIZE],

@@ -1,4 +1,6 @@
 // The test for same bytes: each record of four bytes as one number, the bytes after the last whole record one by one.
+#![tactic(auto)]
+
 ghost use Rattle.std.specs.Prelude.{◌≡◌, ◌≤◌, length};
 ghost use Rattle.same_bytes.specs.Same.{same_bytes, same_between, record_size, record_number, number_of, WholeRecords, PartSize, InParts};
 

@@ -11,7 +11,7 @@ use finishes::capacity;
 use records::job::Job;
 
 // What bounds are found from. Another crate can make one only by `plain` or `new`.
-#[derive(Drop)]
+#[derive(Clone, Copy)]
 pub struct Workload {
     pub jobs: [Job; Job::MOST],
     // The utilisation of each job.

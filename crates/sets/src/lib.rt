@@ -1,4 +1,6 @@
 // Sets of at most eight jobs as the bits of one byte: the list's first job is 1, the second 2, the third 4 and so on.
+#![tactic(auto)]
+
 ghost use Rattle.std.specs.Prelude.{◌≡◌};
 ghost use Rattle.sets.specs.Sets.{has, single, insert, join, rest, remove, within, size, lowest, first_jobs};
 

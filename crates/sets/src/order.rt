@@ -30,7 +30,7 @@ pub fn in_order() -> [u8; SETS]
 }
 
 // Where the next subset stands.
-#[derive(Drop)]
+#[derive(Clone, Copy)]
 pub enum Next {
     At(usize),
     Nothing,

@@ -6,7 +6,7 @@ ghost use Rattle.text.specs.Answers.{answered, told};
 use records::refusal::Refusal;
 
 // Yes or no, as the text tells, or why there is none.
-#[derive(Drop)]
+#[derive(Clone, Copy)]
 pub enum Answered {
     Yes,
     No,
@@ -15,7 +15,7 @@ pub enum Answered {
 
 // The answer, where the lines of the jobs end and what is said of them all begins, and the text's length; beside a refusal the two say
 // nothing.
-#[derive(Drop)]
+#[derive(Clone, Copy)]
 pub struct Told {
     pub answer: Answered,
     pub last: usize,

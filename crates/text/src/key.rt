@@ -120,7 +120,7 @@ pub fn refused(number: u8, output: &mut [u8; SIZE]) -> usize
 }
 
 // The answer beside a key, and the key's length.
-#[derive(Drop)]
+#[derive(Clone, Copy)]
 pub struct Keyed {
     pub answer: Answered,
     pub length: usize,

@@ -1,5 +1,7 @@
 // Runs stored cases through every entry: input frames on standard input, output frames on standard output. The frames are those of
 // reference/README.md; a frame of an entry that is not known is read and not answered.
+#![tactic(auto)]
+
 use libc::STDIN_FILENO;
 use records::word::word_of;
 use tables::at_most;

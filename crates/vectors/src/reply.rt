@@ -3,7 +3,7 @@ use libc::STDOUT_FILENO;
 use records::refusal::{Counted, Refusal, Verdict};
 
 // The refusal's number, 0 where there is none, and how many numbers are given.
-#[derive(Drop)]
+#[derive(Clone, Copy)]
 pub struct Reply {
     pub refusal: u8,
     pub numbers: u8,

@@ -1,5 +1,7 @@
 // Text in a lent buffer, by templates in which each `%` stands for a number. Each function writes from a place on and gives the place after
 // what it wrote.
+#![tactic(auto)]
+
 ghost use Rattle.std.specs.Prelude.{◌≡◌, ◌∷◌, [], ◌+◌, ◌*◌, ◌%◌, ◌≤◌, ◌<◌, length, get_or, drop};
 ghost use Rattle.lists.specs.Decimals.{digit, decimal};
 ghost use Rattle.writing.specs.Templates.{piece, used_after, filled, after_lines, line_of, Wrote, Templated};

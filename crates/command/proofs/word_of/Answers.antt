@@ -1,0 +1,27 @@
+use mathlib.Core.Path.{sym, ◌∙◌}
+use Rattle.command.specs.Words.{word_of}
+use Rattle.command.proofs.word_of.Goals as goal
+
+pub returns-then-same_bytes : goal.returns-then-same_bytes
+unfolding word_of
+returns-then-same_bytes c = simp (sym c.same_bytes.ensures ∙ c.if-same_bytes.true)
+
+pub returns-then-same_bytes-2 : goal.returns-then-same_bytes-2
+unfolding word_of
+returns-then-same_bytes-2 c = simp (sym c.same_bytes.ensures ∙ c.if-same_bytes.false, sym c.same_bytes-2.ensures ∙ c.if-same_bytes-2.true)
+
+pub returns-then-same_bytes-3 : goal.returns-then-same_bytes-3
+unfolding word_of
+returns-then-same_bytes-3 c = simp (sym c.same_bytes.ensures ∙ c.if-same_bytes.false, sym c.same_bytes-2.ensures ∙ c.if-same_bytes-2.false, sym c.same_bytes-3.ensures ∙ c.if-same_bytes-3.true)
+
+pub returns-then-same_bytes-4 : goal.returns-then-same_bytes-4
+unfolding word_of
+returns-then-same_bytes-4 c = simp (sym c.same_bytes.ensures ∙ c.if-same_bytes.false, sym c.same_bytes-2.ensures ∙ c.if-same_bytes-2.false, sym c.same_bytes-3.ensures ∙ c.if-same_bytes-3.false, sym c.same_bytes-4.ensures ∙ c.if-same_bytes-4.true)
+
+pub returns-then-same_bytes-5 : goal.returns-then-same_bytes-5
+unfolding word_of
+returns-then-same_bytes-5 c = simp (sym c.same_bytes.ensures ∙ c.if-same_bytes.false, sym c.same_bytes-2.ensures ∙ c.if-same_bytes-2.false, sym c.same_bytes-3.ensures ∙ c.if-same_bytes-3.false, sym c.same_bytes-4.ensures ∙ c.if-same_bytes-4.false, sym c.same_bytes-5.ensures ∙ c.if-same_bytes-5.true)
+
+pub returns : goal.returns
+unfolding word_of
+returns c = c.other_word.ensures ∙ sym (simp (sym c.same_bytes.ensures ∙ c.if-same_bytes.false, sym c.same_bytes-2.ensures ∙ c.if-same_bytes-2.false, sym c.same_bytes-3.ensures ∙ c.if-same_bytes-3.false, sym c.same_bytes-4.ensures ∙ c.if-same_bytes-4.false, sym c.same_bytes-5.ensures ∙ c.if-same_bytes-5.false))

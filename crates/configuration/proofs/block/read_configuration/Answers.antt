@@ -1,0 +1,32 @@
+use mathlib.Core.Path.{sym, ap₂, ◌∙◌}
+use mathlib.Core.List.{List, []}
+use lib.ListN.{length}
+use Rattle.records.specs.Jobs.{job_list}
+use Rattle.records.specs.declared.job.Job.{Job}
+use Rattle.records.specs.declared.range.Range.{Range}
+use Rattle.records.proofs.Asking.{call-knows, call-turned, call-on}
+use Rattle.configuration.specs.Settings.{setting_table}
+use Rattle.configuration.specs.Blocks.{settings_of, record_tests, read_settings, read_configuration}
+use Rattle.configuration.proofs.block.read_configuration.Goals as goal
+
+pub returns-in_default : goal.returns-in_default
+unfolding read_configuration
+returns-in_default c =
+    let a = c.args in
+    let jobs = a.jobs.now in
+    let block = a.configuration.now in
+    c.configuration_refused.ensures
+    ∙ call-turned jobs a.low a.high [] _ c.read_call-call.ensures (record_tests (job_list jobs) a.low a.high block) (length (job_list jobs)) (setting_table (settings_of jobs block)) (setting_table [])
+    _ _ c.in_default.is c.refusal_of.ensures
+
+pub returns : goal.returns
+unfolding read_settings read_configuration
+returns c =
+    let a = c.args in
+    let jobs = a.jobs.now in
+    let block = a.configuration.now in
+    let e = c.in-Count.is in
+    let known = (call-knows jobs a.low a.high [] _ c.read_call-call.ensures _ e).1 in
+    c.read_settings.ensures
+    ∙ ap₂ (λ (l : List Job) (x : Range). read_settings l x.low x.high block) known.list known.range
+    ∙ sym (call-on jobs a.low a.high [] _ c.read_call-call.ensures (record_tests (job_list jobs) a.low a.high block) (length (job_list jobs)) (setting_table (settings_of jobs block)) (setting_table []) _ e)

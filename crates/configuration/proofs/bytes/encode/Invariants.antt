@@ -1,0 +1,13 @@
+use Prim.Native.Nat.{◌*◌, ◌≤◌, ◌-◌}
+use mathlib.Core.Path.{◌≡◌}
+use mathlib.Core.List.{◌++◌}
+use lib.ListN.{length, drop, take}
+use Rattle.records.specs.Records.{flat}
+use Rattle.configuration.specs.Settings.{setting_size, setting_bytes}
+use Rattle.configuration.proofs.bytes.encode.Given as goal
+
+abbrev pub invariant-loop-i : goal.invariant-loop-i
+invariant-loop-i l = (l.i ≤ l.n) × (length l.output ≡ length l.initial.output) × (l.output ≡ flat setting_bytes (take l.i l.table) ++ drop (setting_size * l.i) l.initial.output)
+
+abbrev pub decreases-loop-i : goal.decreases-loop-i
+decreases-loop-i l = l.n - l.i

@@ -1,0 +1,35 @@
+use Prim.Native.Nat.{ℕ, ◌-◌}
+use mathlib.Core.Path.{◌≡◌, sym, ◌∙◌, ap}
+use mathlib.Core.Logic.{⊎_elim}
+use native.Mathlib.Omega.{arith}
+use lib.ListN.{length}
+use Rattle.sets.specs.Places.{sum_over}
+use Rattle.sets.specs.Sets.{has}
+use Rattle.sets.proofs.Places.{over_none, over-in, over-out}
+use Rattle.records.specs.Limits.{most_jobs}
+use Rattle.records.specs.Jobs.{job_at}
+use Rattle.response.specs.Demand.{work, interference}
+use borrow.Author.Rules.{rules}
+use Rattle.finishes.proofs.demand.interference.Goals as goal
+
+pub loop-i-init : goal.loop-i-init
+loop-i-init c = (search rules, sym (over_none _ _), omega arith)
+
+pub loop-i-preserved : goal.loop-i-preserved
+loop-i-preserved c =
+    let a = c.args in
+    let l = c.loop-i in
+    let f : ℕ → ℕ = λ k. work (job_at a.jobs k) a.t in
+    ⊎_elim
+    (λ w. (omega arith, w.3 ∙ omega (arith, over-in l.i (has a.above) f c.contains.ensures w.0.taken, w.2.ensures.0, l.invariant.1), omega arith))
+    (λ w. (omega arith, w.1 ∙ omega (arith, over-out l.i (has a.above) f c.contains.ensures w.0.left, l.invariant.1), omega arith))
+    c.if-contains.branch
+
+pub returns : goal.returns
+unfolding interference
+returns c =
+    let a = c.args in
+    let l = c.loop-i in
+    let eight : length a.jobs ≡ most_jobs = search rules in
+    let e : l.i ≡ length a.jobs = omega arith in
+    (l.invariant.1 ∙ ap (λ (n : ℕ). sum_over n (has a.above) (λ k. work (job_at a.jobs k) a.t)) e, omega arith)

@@ -1,0 +1,43 @@
+use Prim.Native.Nat.{ℕ, ◌+◌, ◌*◌, ◌-◌, ◌^◌, ◌≤◌}
+use mathlib.Core.Path.{◌≡◌, sym, ◌∙◌, ap}
+use mathlib.Core.Logic.{⊎_elim}
+use native.Mathlib.Omega.{arith}
+use lib.ListN.{length}
+use Rattle.sets.specs.Places.{sum_over}
+use Rattle.sets.specs.Sets.{has}
+use Rattle.sets.proofs.Places.{over_none, over-in, over-out}
+use Rattle.records.specs.Limits.{most_jobs}
+use Rattle.records.specs.Jobs.{job_at}
+use Rattle.response.specs.Demand.{work, interference}
+use borrow.Author.Rules.{rules}
+use Rattle.finishes.proofs.demand.works_of.Goals as goal
+
+pub loop-i-init : goal.loop-i-init
+loop-i-init c = (search rules, sym (over_none _ _), sym (over_none _ _), omega arith, omega arith)
+
+pub loop-i-preserved : goal.loop-i-preserved
+loop-i-preserved c =
+    let l = c.loop-i in
+    let a = c.args in
+    let f : ℕ → ℕ = λ k. work (job_at a.jobs k) a.t in
+    let long : (c.if-contains.of-long ≡ sum_over (l.i + 1) (has a.long) f) × (c.if-contains.of-long ≤ (l.i + 1) * 2 ^ 39) =
+    ⊎_elim
+    (λ w. (w.3 ∙ omega (arith, over-in l.i (has a.long) f c.contains.ensures w.0.taken, w.2.ensures.0, l.invariant.1), omega (arith, w.3, w.2.ensures.1, l.invariant.3)))
+    (λ w. (w.1 ∙ omega (arith, over-out l.i (has a.long) f c.contains.ensures w.0.left, l.invariant.1), omega (arith, w.1, l.invariant.3)))
+    c.if-contains.branch in
+    let short : (c.if-contains-2.of-short ≡ sum_over (l.i + 1) (has a.short) f) × (c.if-contains-2.of-short ≤ (l.i + 1) * 2 ^ 39) =
+    ⊎_elim
+    (λ w. (w.3 ∙ omega (arith, over-in l.i (has a.short) f c.contains-in-loop-i.ensures w.0.taken, w.2.ensures.0, l.invariant.2), omega (arith, w.3, w.2.ensures.1, l.invariant.4)))
+    (λ w. (w.1 ∙ omega (arith, over-out l.i (has a.short) f c.contains-in-loop-i.ensures w.0.left, l.invariant.2), omega (arith, w.1, l.invariant.4)))
+    c.if-contains-2.branch in
+    (omega arith, long.0, short.0, long.1, short.1)
+
+pub returns : goal.returns
+unfolding interference
+returns c =
+    let a = c.args in
+    let l = c.loop-i in
+    let f : ℕ → ℕ = λ k. work (job_at a.jobs k) a.t in
+    let eight : length a.jobs ≡ most_jobs = search rules in
+    let e : l.i ≡ length a.jobs = omega arith in
+    (l.invariant.1 ∙ ap (λ (n : ℕ). sum_over n (has a.long) f) e, l.invariant.2 ∙ ap (λ (n : ℕ). sum_over n (has a.short) f) e, omega (arith, l.invariant.3), omega (arith, l.invariant.4))

@@ -1,0 +1,34 @@
+use Prim.Native.Nat.{ℕ, ◌-◌}
+use mathlib.Core.Path.{◌≡◌, refl, subst, ◌∙◌}
+use mathlib.Core.Logic.{⊎_elim}
+use native.Mathlib.Omega.{arith}
+use lib.Dec.{leb}
+use borrow.Author.Tests.{le-leb, lt-leb}
+use borrow.Author.Rules.{rules}
+use Rattle.sets.specs.Sets.{Set, Collects}
+use Rattle.sets.proofs.Members.{collect-none, collect-in, collect-out}
+use Rattle.records.specs.Limits.{most_jobs}
+use Rattle.records.specs.Jobs.{job_at}
+use Rattle.finishes.proofs.finish.short_jobs.Goals as goal
+
+pub loop-i-init : goal.loop-i-init
+loop-i-init c = (search rules, collect-none _)
+
+pub loop-i-preserved : goal.loop-i-preserved
+loop-i-preserved c =
+    let l = c.loop-i in
+    let a = c.args in
+    let set : Set = λ i. leb (job_at a.jobs i).period a.longest in (
+      search rules,
+      ⊎_elim
+          (λ w. collect-in l.i set l.set l.invariant.1 refl (omega arith) (le-leb (job_at a.jobs l.i).period a.longest w.0.taken) c.if-job-longest.set (w.2 ∙ w.1.ensures))
+          (λ w. collect-out l.i set l.set l.invariant.1 refl (lt-leb (job_at a.jobs l.i).period a.longest (omega (arith, w.0.left))) c.if-job-longest.set w.1)
+          c.if-job-longest.branch,
+    )
+
+pub returns : goal.returns
+returns c =
+    let l = c.loop-i in
+    let a = c.args in
+    let e : l.i ≡ most_jobs = omega arith in
+    subst (λ (k : ℕ). Collects k (λ i. leb (job_at a.jobs i).period a.longest) l.set) e l.invariant.1

@@ -1,0 +1,26 @@
+use mathlib.Core.Path.{◌∙◌}
+use Rattle.records.specs.Refusals.{Tests}
+use Rattle.records.specs.Jobs.{job_count}
+use Rattle.limits.specs.Boxes.{limit_tests}
+use Rattle.planner.proofs.Promising.{put-turned, put_on}
+use Rattle.gate.specs.Outcomes.{plan_within}
+use Rattle.gate.proofs.Promising.{plan-promise}
+use Rattle.gate.proofs.plan_within.Goals as goal
+
+-- What the limits ask of the call.
+abbrev more : tie.Start → Tests
+more s = limit_tests s.args.limits (job_count s.args.jobs.now) s.args.high
+
+pub returns-in_default : goal.returns-in_default
+unfolding plan_within
+returns-in_default c =
+    let a = c.args in
+    plan-promise a.limits a.jobs.now a.low a.high a.configuration.now a.bounds.now _
+    (put-turned a.jobs.now a.low a.high (more (goal.at.returns-in_default c).Start) _ c.read_call-call.ensures a.configuration.now a.bounds.now _ _ c.in_default.is c.refusal_of.ensures)
+
+pub returns : goal.returns
+unfolding plan_within
+returns c =
+    let a = c.args in
+    plan-promise a.limits a.jobs.now a.low a.high a.configuration.now a.bounds.now _
+    (c.put_plan.ensures ∙ put_on a.jobs.now a.low a.high (more (goal.at.returns c).Start) _ c.read_call-call.ensures a.configuration.now a.bounds.now _ c.in-Count.is)

@@ -1,0 +1,26 @@
+use Prim.Native.Nat.{ℕ, ◌-◌}
+use mathlib.Core.Path.{◌≡◌, refl, ap, ◌∙◌}
+use native.Mathlib.Omega.{arith}
+use Rattle.records.specs.Limits.{most_jobs}
+use Rattle.records.specs.Records.{chunks}
+use Rattle.records.proofs.FixedWidth.{read_next}
+use Rattle.kernel.specs.KernelRecords.{kernel_size, kernel_of, blank_kernel, kernels_in, kernel_table}
+use borrow.Author.Rules.{rules}
+use Rattle.kernel.proofs.bytes.decode.Goals as goal
+
+pub loop-i-init : goal.loop-i-init
+unfolding chunks
+loop-i-init c = (search rules, refl)
+
+pub loop-i-preserved : goal.loop-i-preserved
+loop-i-preserved c =
+    let l = c.loop-i in
+    let s = c.args.block.now in
+    (search rules, read_next kernel_size kernel_of most_jobs blank_kernel l.i s l.table c.get_kernel.result (omega arith) l.invariant.1 c.get_kernel.ensures)
+
+pub returns : goal.returns
+returns c =
+    let l = c.loop-i in
+    let a = c.args in
+    let e : l.i ≡ a.n = omega arith in
+    l.invariant.1 ∙ ap (λ (k : ℕ). kernel_table (kernels_in k a.block.now)) e

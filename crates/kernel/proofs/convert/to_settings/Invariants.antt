@@ -1,0 +1,13 @@
+use Prim.Native.Nat.{◌-◌, ◌≤◌}
+use mathlib.Core.Path.{◌≡◌}
+use mathlib.Core.List.{map}
+use lib.ListN.{take}
+use Rattle.configuration.specs.Settings.{setting_table}
+use Rattle.kernel.specs.KernelRecords.{to_setting}
+use Rattle.kernel.proofs.convert.to_settings.Given as goal
+
+abbrev pub invariant-loop-i : goal.invariant-loop-i
+invariant-loop-i l = (l.i ≤ l.count) × (l.settings ≡ setting_table (map (to_setting l.highest) (take l.i l.kernels)))
+
+abbrev pub decreases-loop-i : goal.decreases-loop-i
+decreases-loop-i l = l.count - l.i

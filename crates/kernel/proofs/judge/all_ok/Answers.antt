@@ -1,0 +1,19 @@
+use Prim.Native.Nat.{min}
+use mathlib.Core.Path.{◌≡◌, refl, sym, ap₂, ◌∙◌}
+use lib.Dec.{eqb}
+use lib.ListN.{length}
+use Rattle.sets.proofs.Places.{every-failing}
+use Rattle.records.specs.Limits.{most_jobs}
+use Rattle.kernel.specs.KernelConfiguration.{kernel_ok}
+use Rattle.kernel.proofs.KernelTests.{ok-table}
+use borrow.Author.Rules.{rules}
+use Rattle.kernel.proofs.judge.all_ok.Goals as goal
+
+pub returns : goal.returns
+returns c =
+    let a = c.args in
+    let count = min a.n most_jobs in
+    let size : length a.jobs ≡ most_jobs = search rules in
+    ap₂ eqb c.first_faulty.ensures c.at_most.ensures
+    ∙ sym (every-failing (kernel_ok a.rule count a.jobs a.range.low a.range.high a.highest a.kernels) count)
+    ∙ ok-table a.jobs a.kernels most_jobs a.n count size refl a.rule a.range.low a.range.high a.highest

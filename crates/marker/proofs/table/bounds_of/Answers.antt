@@ -1,0 +1,54 @@
+use Prim.Native.Nat.{ℕ, ◌-◌, ◌≤◌}
+use mathlib.Core.Path.{◌≡◌, refl, sym, ap, ap₂, ◌∙◌}
+use mathlib.Core.List.{List}
+use native.Mathlib.Omega.{arith}
+use lib.ListN.{length, take}
+use lib.Seq.{length-take-le}
+use Rattle.sets.specs.Places.{list_of}
+use Rattle.records.specs.Limits.{most_jobs}
+use Rattle.records.specs.Records.{table}
+use Rattle.records.specs.declared.job.Job.{Job}
+use Rattle.records.proofs.FixedWidth.{list-next}
+use Rattle.search.specs.Search.{plain_workload}
+use Rattle.search.specs.declared.workload.Workload.{Workload}
+use Rattle.marker.specs.Bounds.{bound_at}
+use Rattle.marker.proofs.Configured.{bounds-table}
+use borrow.Author.Rules.{rules}
+use Rattle.marker.proofs.table.bounds_of.Goals as goal
+use Rattle.marker.proofs.table.bounds_of.Goals.{After-plain-workload}
+
+-- The workload is that of the table.
+module _ (c : After-plain-workload) where
+  abbrev count : ℕ
+  count = c.at_most-count.result
+
+  jobs-are : c.plain-workload.result.jobs ≡ c.args.jobs
+  jobs-are = ap (λ (w : Workload). w.jobs) c.plain-workload.ensures
+
+  size : length c.args.jobs ≡ most_jobs
+  size = search rules
+
+pub loop-k-init : goal.loop-k-init
+unfolding list_of
+loop-k-init c = (search rules, refl)
+
+pub bound_of-requires : goal.bound_of-requires
+bound_of-requires c =
+    let few : count (goal.at.bound_of-requires c).After-plain-workload ≤ most_jobs = omega (arith, c.at_most-count.ensures) in
+    (few, search rules, c.plain-workload.ensures ∙ ap plain_workload (sym (jobs-are (goal.at.bound_of-requires c).After-plain-workload)))
+
+pub loop-k-preserved : goal.loop-k-preserved
+loop-k-preserved c =
+    let l = c.loop-k in
+    (search rules, list-next (bound_at (take (count (goal.at.loop-k-preserved c).After-plain-workload) c.plain-workload.result.jobs) c.args.settings) most_jobs l.k 0 l.bounds c.bound_of.result (omega (arith, c.at_most-count.ensures)) l.invariant.1 c.bound_of.ensures)
+
+pub returns : goal.returns
+returns c =
+    let l = c.loop-k in
+    let a = c.args in
+    let cut = c.at_most-count.ensures in
+    let jobs = take (count (goal.at.returns c).After-plain-workload) a.jobs in
+    let e : l.k ≡ length jobs = omega (arith, length-take-le (count (goal.at.returns c).After-plain-workload) a.jobs (omega (arith, cut, size (goal.at.returns c).After-plain-workload))) in
+    l.invariant.1
+    ∙ ap₂ (λ (t : List Job) (k : ℕ). table most_jobs 0 (list_of (bound_at (take (count (goal.at.returns c).After-plain-workload) t) a.settings) k)) (jobs-are (goal.at.returns c).After-plain-workload) e
+    ∙ ap (table most_jobs 0) (bounds-table a.jobs a.settings most_jobs a.n (count (goal.at.returns c).After-plain-workload) (size (goal.at.returns c).After-plain-workload) cut)

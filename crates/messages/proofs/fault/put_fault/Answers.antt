@@ -1,0 +1,15 @@
+use native.Mathlib.Omega.{arith}
+use Rattle.writing.specs.Templates.{filled}
+use Rattle.writing.proofs.Writing.{then, whole}
+use borrow.Author.Rules.{rules}
+use Rattle.messages.proofs.fault.put_fault.Goals as goal
+
+pub put_message-after_message-requires : goal.put_message-after_message-requires
+put_message-after_message-requires c = let line = c.put_template-after_line.ensures.wrote (search rules) in omega (arith, line.next, line.short)
+
+pub returns : goal.returns
+unfolding filled
+returns c =
+    let line = c.put_template-after_line.ensures.wrote (search rules) in
+    let said = c.put_message-after_message.ensures in
+    whole (then line (then said (c.put_template.ensures.wrote (omega (arith, line.next, line.short, said.next, said.short))))) (search rules)

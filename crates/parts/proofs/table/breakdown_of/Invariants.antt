@@ -1,0 +1,15 @@
+use Prim.Native.Nat.{◌-◌, ◌≤◌}
+use mathlib.Core.Path.{◌≡◌}
+use lib.ListN.{take}
+use Rattle.sets.specs.Places.{list_of}
+use Rattle.records.specs.Limits.{most_jobs}
+use Rattle.records.specs.Records.{table}
+use Rattle.response.specs.Breakdown.{no_parts}
+use Rattle.parts.specs.Breakdowns.{parts_in}
+use Rattle.parts.proofs.table.breakdown_of.Given as goal
+
+abbrev pub invariant-loop-k : goal.invariant-loop-k
+invariant-loop-k l = (l.k ≤ l.count) × (l.parts ≡ table most_jobs no_parts (list_of (parts_in (take l.count l.workload.jobs) l.settings) l.k))
+
+abbrev pub decreases-loop-k : goal.decreases-loop-k
+decreases-loop-k l = l.count - l.k

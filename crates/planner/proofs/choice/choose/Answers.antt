@@ -1,0 +1,117 @@
+use Prim.Native.Nat.{ℕ, suc, ◌+◌, ◌-◌, ◌^◌, ◌≤◌, ◌<◌}
+use mathlib.Core.Path.{◌≡◌, refl, sym, ap, ◌∙◌}
+use mathlib.Core.List.{List}
+use native.Mathlib.Numerals.{add-one}
+use native.Mathlib.Omega.{arith}
+use lib.ListN.{length, take}
+use lib.Pow.{pow_mono}
+use lib.Seq.{length-take-le}
+use Rattle.sets.specs.Sets.{places, size}
+use Rattle.sets.specs.Order.{subsets}
+use Rattle.sets.proofs.Parts.{size-bound}
+use Rattle.periods.specs.ByPeriods.{total, period_at, by_periods}
+use Rattle.periods.specs.Subsets.{most_of_size, heaviest_first}
+use Rattle.periods.proofs.SizeBySize.{beyond}
+use Rattle.sets.proofs.Searching.{Reached}
+use Rattle.planner.specs.declared.quanta.Question.{Question}
+use Rattle.planner.specs.Questions.{listed}
+use Rattle.planner.specs.Stages.{takeable, Chosen}
+use Rattle.planner.proofs.Choosing.{singles-are, found-are, search-starts, missed-few, search-ends, size-misses, size-takes}
+use borrow.Author.Rules.{rules}
+use Rattle.planner.proofs.choice.choose.Goals as goal
+use Rattle.planner.proofs.choice.choose.Goals.{After-first_of-alone, After-first_of-choice, After-subsets_of-found, In-loop-size}
+
+pub first_of-alone-requires : goal.first_of-alone-requires
+first_of-alone-requires c = (c.requires.0, c.requires.1, c.requires.2.few)
+
+-- The sets of one job.
+module _ (c : After-first_of-alone) where
+  abbrev question : Question
+  question = c.args.question
+
+  abbrev left : ℕ
+  left = c.args.left
+
+  alone-takes : (c.first_of-alone.result.set ≡ 0 → ⊥) → Chosen question (by_periods (listed question)) left c.first_of-alone.result
+  alone-takes some-set =
+      size-takes question c.requires.0 _ _ c.requires.2 left c.requires.1 0 0 (search-starts question c.requires.0 _ _ c.requires.2 left c.requires.1) (omega arith)
+      c.args.singles.now (singles-are question c.requires.0 _ _ c.requires.2 left c.requires.1) c.first_of-alone.result c.first_of-alone.ensures some-set c.first_of-alone.result refl refl (omega arith)
+
+  alone-misses : c.first_of-alone.result.set ≡ 0 → Reached (takeable question left) (subsets left (by_periods (listed question))) (beyond (total (period_at (listed question))) left 1) c.first_of-alone.result.considered
+  alone-misses none =
+      size-misses question c.requires.0 _ _ c.requires.2 left c.requires.1 0 0 (search-starts question c.requires.0 _ _ c.requires.2 left c.requires.1) (omega arith)
+      c.args.singles.now (singles-are question c.requires.0 _ _ c.requires.2 left c.requires.1) c.first_of-alone.result c.first_of-alone.ensures none 1 c.first_of-alone.result.considered refl (omega arith)
+
+pub returns-then-alone-ne0 : goal.returns-then-alone-ne0
+returns-then-alone-ne0 c = alone-takes (goal.at.returns-then-alone-ne0 c).After-first_of-alone c.if-alone-ne0.true
+
+pub loop-size-init : goal.loop-size-init
+loop-size-init c = (omega arith, alone-misses (goal.at.loop-size-init c).After-first_of-alone c.if-alone-ne0.false)
+
+-- A larger size.
+module _ (c : In-loop-size) where
+  below : c.loop-size.size < places
+  below =
+      let s = (goal.at.In-loop-size c).Start (goal.at.In-loop-size c).After-first_of-alone in
+      omega (arith, c.loop-size-test.true, c.size-most.ensures, size-bound places (left (goal.at.In-loop-size c).After-first_of-alone) (omega (arith, s.pre.1, pow_mono s.pre.0.few)))
+
+pub overflow_add-size : goal.overflow_add-size
+overflow_add-size c = omega (arith, below (goal.at.overflow_add-size c).In-loop-size)
+
+module _ (c : After-subsets_of-found) where
+  abbrev count : ℕ
+  count = c.subsets_of-found.result.count
+
+  fits : count ≤ length c.subsets_of-found.result.sets
+  fits =
+      let long : length c.subsets_of-found.result.sets ≡ most_of_size = search rules in
+      omega (arith, c.subsets_of-found.ensures.few)
+
+pub slice_bounds-tried-end : goal.slice_bounds-tried-end
+slice_bounds-tried-end c = fits (goal.at.slice_bounds-tried-end c).After-subsets_of-found
+
+pub slice_bounds-first_of-end : goal.slice_bounds-first_of-end
+slice_bounds-first_of-end c = sym (length-take-le (count (goal.at.slice_bounds-first_of-end c).After-subsets_of-found) c.subsets_of-found.result.sets (fits (goal.at.slice_bounds-first_of-end c).After-subsets_of-found))
+
+pub first_of-choice-requires : goal.first_of-choice-requires
+first_of-choice-requires c =
+    (c.requires.0, c.requires.1, omega (arith, length-take-le (count (goal.at.first_of-choice-requires c).After-subsets_of-found) c.subsets_of-found.result.sets (fits (goal.at.first_of-choice-requires c).After-subsets_of-found), c.subsets_of-found.ensures.few))
+
+-- What was found among the sets of that size.
+module _ (c : After-first_of-choice) where
+  abbrev part : List ℕ
+  part = take (count (goal.at.After-first_of-choice c).After-subsets_of-found) c.subsets_of-found.result.sets
+
+  room : ((goal.at.After-first_of-choice c).At-loop-size (goal.at.After-first_of-choice c).In-loop-size).loop.missed + c.first_of-choice.result.considered < 2 ^ 16
+  room =
+      omega (
+        arith,
+        missed-few c.args.question c.requires.0 _ _ c.requires.2 c.args.left c.requires.1 ((goal.at.After-first_of-choice c).At-loop-size (goal.at.After-first_of-choice c).In-loop-size).loop.size ((goal.at.After-first_of-choice c).At-loop-size (goal.at.After-first_of-choice c).In-loop-size).loop.missed ((goal.at.After-first_of-choice c).At-loop-size (goal.at.After-first_of-choice c).In-loop-size).loop.inv.1,
+        c.first_of-choice.ensures.few,
+        length-take-le (count (goal.at.After-first_of-choice c).After-subsets_of-found) c.subsets_of-found.result.sets (fits (goal.at.After-first_of-choice c).After-subsets_of-found),
+        c.subsets_of-found.ensures.few,
+      )
+
+  part-are : subsets c.args.left part ≡ heaviest_first (total (period_at (listed c.args.question))) c.args.left (suc ((goal.at.After-first_of-choice c).At-loop-size (goal.at.After-first_of-choice c).In-loop-size).loop.size)
+  part-are =
+      found-are c.args.question c.requires.0 _ _ c.requires.2 c.args.left c.requires.1 (((goal.at.After-first_of-choice c).At-loop-size (goal.at.After-first_of-choice c).In-loop-size).loop.size + 1) c.subsets_of-found.result c.subsets_of-found.ensures
+      ∙ ap (heaviest_first (total (period_at (listed c.args.question))) c.args.left) (add-one ((goal.at.After-first_of-choice c).At-loop-size (goal.at.After-first_of-choice c).In-loop-size).loop.size)
+
+pub overflow_add-missed : goal.overflow_add-missed
+overflow_add-missed c = omega (arith, room (goal.at.overflow_add-missed c).After-first_of-choice)
+
+pub returns-then-choice-ne0 : goal.returns-then-choice-ne0
+returns-then-choice-ne0 c =
+    size-takes c.args.question c.requires.0 _ _ c.requires.2 c.args.left c.requires.1 _ _ c.loop-size.invariant.1 (below (goal.at.returns-then-choice-ne0 c).In-loop-size) (part (goal.at.returns-then-choice-ne0 c).After-first_of-choice) (part-are (goal.at.returns-then-choice-ne0 c).After-first_of-choice)
+    c.first_of-choice.result c.first_of-choice.ensures c.if-choice-ne0.true _ refl refl refl
+
+pub loop-size-preserved : goal.loop-size-preserved
+loop-size-preserved c = (
+  omega (arith, below (goal.at.loop-size-preserved c).In-loop-size),
+  size-misses c.args.question c.requires.0 _ _ c.requires.2 c.args.left c.requires.1 _ _ c.loop-size.invariant.1 (below (goal.at.loop-size-preserved c).In-loop-size) (part (goal.at.loop-size-preserved c).After-first_of-choice) (part-are (goal.at.loop-size-preserved c).After-first_of-choice)
+      c.first_of-choice.result c.first_of-choice.ensures c.if-choice-ne0.false _ _ (add-one c.loop-size.size) refl,
+)
+
+pub returns : goal.returns
+returns c =
+    search-ends c.args.question c.requires.0 _ _ c.requires.2 c.args.left c.requires.1 _ _ c.loop-size.invariant.1 (omega (arith, c.loop-size-test.false, c.size-most.ensures)) _ refl refl

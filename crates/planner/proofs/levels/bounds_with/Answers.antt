@@ -1,0 +1,41 @@
+use Prim.Native.Nat.{ℕ, ◌-◌}
+use mathlib.Core.Path.{◌≡◌, refl, sym, ap, ◌∙◌}
+use mathlib.Core.Bool.{Bool, cond}
+use mathlib.Core.Logic.{⊎_elim}
+use native.Mathlib.Omega.{arith}
+use lib.ListN.{get_or}
+use Rattle.sets.specs.Places.{list_of}
+use Rattle.sets.specs.Sets.{has}
+use Rattle.records.specs.Limits.{most_jobs}
+use Rattle.records.specs.Records.{table}
+use Rattle.records.proofs.FixedWidth.{list-next}
+use Rattle.response.specs.Demand.{bound}
+use Rattle.planner.specs.Questions.{listed}
+use Rattle.planner.proofs.Asked.{asked-bound}
+use Rattle.planner.proofs.levels.bounds_with.Invariants.{next-at}
+use Rattle.planner.proofs.levels.bounds_with.Goals as goal
+
+pub loop-k-init : goal.loop-k-init
+unfolding list_of
+loop-k-init c = (omega arith, refl)
+
+pub loop-k-preserved : goal.loop-k-preserved
+loop-k-preserved c =
+    let l = c.loop-k in
+    let a = c.args in
+    let f = next-at a.question a.bounds a.set a.above a.quanta in
+    let test = c.contains.ensures in
+    let given : Bool → ℕ = λ b. cond b (bound (listed a.question) a.quanta (has a.set) (has a.above) l.k) (get_or a.bounds l.k 0) in
+    let value : c.if-contains.next ≡ f l.k = ⊎_elim
+    (λ w. w.2 ∙ w.1.ensures ∙ asked-bound a.question a.set a.above c.requires a.quanta l.k (omega arith) ∙ sym (ap given (sym test ∙ w.0.taken)))
+    (λ w. w.1 ∙ sym (ap given (sym test ∙ w.0.left)))
+    c.if-contains.branch
+    in
+    (omega arith, list-next f most_jobs l.k 0 l.next c.if-contains.next (omega arith) l.invariant.1 value)
+
+pub returns : goal.returns
+returns c =
+    let l = c.loop-k in
+    let a = c.args in
+    let e : l.k ≡ a.question.n = omega arith in
+    l.invariant.1 ∙ ap (λ (k : ℕ). table most_jobs 0 (list_of (next-at a.question a.bounds a.set a.above a.quanta) k)) e

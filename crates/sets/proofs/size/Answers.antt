@@ -1,0 +1,7 @@
+use mathlib.Core.Path.{refl}
+use Rattle.sets.specs.Sets.{size}
+use Rattle.sets.proofs.size.Goals as goal
+
+pub returns : goal.returns
+unfolding size
+returns c = refl
