@@ -3,9 +3,10 @@
 #![tactic(auto)]
 
 use desk::held::ROOM;
-use libc::STDOUT_FILENO;
 use records::job::Job;
 use records::refusal::Verdict;
+
+const STDOUT_FILENO: i32 = 1;
 
 fn print_number(number: u16, end: &[u8]) {
     io::print_decimal(STDOUT_FILENO, number as u64);

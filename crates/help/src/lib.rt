@@ -2,11 +2,11 @@
 #![tactic(auto)]
 
 use command::Word;
+use std::io::Result;
 
-fn all_words(fd: i32) -> bool {
-    io::write_all(
-        fd,
-        b"ruzhtylen WORD [OPTIONS] FILE..
+// What all words do.
+pub fn all_words() -> &'static [u8] {
+    b"ruzhtylen WORD [OPTIONS] FILE..
 
   key LIST                    a configuration that passes, or which jobs cannot be placed
   mark LIST HAND-IN..         whether configurations that were handed in pass
@@ -27,13 +27,11 @@ fn all_words(fd: i32) -> bool {
   --bytes                     the kernel records are bytes and not a text (loader)
 
 A FILE that is - is standard input. Status 0: yes; 1: no; 2: no answer, and why is said.
-",
-    )
+"
 }
 
-fn key(fd: i32) -> bool {
-    io::write_all(
-        fd,
+fn key(rt: &impl Print) -> Result<()> {
+    rt.write_all(
         b"ruzhtylen key [--quanta LOW-HIGH] [--block] [--gate] LIST
 
 Prints a line per job, id level policy quantum bound, and how many are placed.
@@ -50,9 +48,8 @@ are refused with 15. What is not refused has the same key as without.
 }
 
 // What a list is.
-fn list(fd: i32) -> bool {
-    io::write_all(
-        fd,
+fn list(rt: &impl Print) -> Result<()> {
+    rt.write_all(
         b"
 A list has a line per job, id cost period deadline [delay], and may say its range in a
 line quanta LOW HIGH. From # on a line is a comment.
@@ -60,9 +57,8 @@ line quanta LOW HIGH. From # on a line is a comment.
     )
 }
 
-fn mark(fd: i32) -> bool {
-    io::write_all(
-        fd,
+fn mark(rt: &impl Print) -> Result<()> {
+    rt.write_all(
         b"ruzhtylen mark [--quanta LOW-HIGH] [--block] [--gate] LIST HAND-IN..
 
 One HAND-IN: a line per job with its bound and its deadline, then passes, or fails and
@@ -74,9 +70,8 @@ are refused with 15. What is not refused has the same mark as without.
     )
 }
 
-fn bounds(fd: i32) -> bool {
-    io::write_all(
-        fd,
+fn bounds(rt: &impl Print) -> Result<()> {
+    rt.write_all(
         b"ruzhtylen bounds [--quanta LOW-HIGH] [--block] LIST CONFIGURATION
 
 Prints a line per job, id level policy quantum bound; a job that is not placed, or has no
@@ -85,9 +80,8 @@ bound up to its deadline, has bound 0. The status is 0 where no bound is 0, else
     )
 }
 
-fn explain(fd: i32) -> bool {
-    io::write_all(
-        fd,
+fn explain(rt: &impl Print) -> Result<()> {
+    rt.write_all(
         b"ruzhtylen explain [--quanta LOW-HIGH] [--block] LIST CONFIGURATION
 
 Prints two lines per job: the sum that makes its bound, with its deadline; and the same as
@@ -114,9 +108,8 @@ The status is 0 where no bound is 0, else 1.
 }
 
 // What a configuration is.
-fn configuration(fd: i32) -> bool {
-    io::write_all(
-        fd,
+fn configuration(rt: &impl Print) -> Result<()> {
+    rt.write_all(
         b"
 A configuration has a line per job, id level policy quantum, in the order of the list;
 the policy is none, fifo or rr, or 0, 1 or 2. A number after them and a line that begins
@@ -125,9 +118,8 @@ with placed are passed over, so that a key can be handed in.
     )
 }
 
-fn loader(fd: i32) -> bool {
-    io::write_all(
-        fd,
+fn loader(rt: &impl Print) -> Result<()> {
+    rt.write_all(
         b"ruzhtylen loader --priorities LOWEST-HIGHEST [--quanta LOW-HIGH] [--block] [--bytes]
                  LIST CONFIGURATION
 ruzhtylen loader --back --priorities LOWEST-HIGHEST [--quanta LOW-HIGH] [--block] [--bytes]
@@ -148,9 +140,8 @@ comes back as it was. With --block the files are blocks.
     )
 }
 
-fn block(fd: i32) -> bool {
-    io::write_all(
-        fd,
+fn block(rt: &impl Print) -> Result<()> {
+    rt.write_all(
         b"ruzhtylen block [--configuration] FILE
 
 Writes the block of a text: 8 bytes per job (id, delay, cost, period, deadline; the last
@@ -160,9 +151,8 @@ level, policy, quantum). Nothing is judged.
     )
 }
 
-fn text(fd: i32) -> bool {
-    io::write_all(
-        fd,
+fn text(rt: &impl Print) -> Result<()> {
+    rt.write_all(
         b"ruzhtylen text [--configuration] FILE
 
 Writes the text of a block, as block reads it. Nothing but its size is judged.
@@ -170,9 +160,8 @@ Writes the text of a block, as block reads it. Nothing but its size is judged.
     )
 }
 
-fn install(fd: i32) -> bool {
-    io::write_all(
-        fd,
+fn install(rt: &impl Print) -> Result<()> {
+    rt.write_all(
         b"ruzhtylen install PREFIX
 
 In a clone: builds the program and the library, and puts bin/ruzhtylen with its program in
@@ -182,22 +171,26 @@ They need no kit to be used.
     )
 }
 
-fn both(first: bool, second: bool) -> bool {
-    if first { second } else { false }
+// Whether both were written, and else why not: the later of the reasons.
+fn both(first: Result<()>, second: Result<()>) -> Result<()> {
+    match second {
+        Ok(()) => first,
+        Err(error) => Err(error),
+    }
 }
 
 // Says what a word does; what all words do where it is none. It gives whether all was written.
-pub fn help(fd: i32, word: Word) -> bool {
+pub fn help(rt: &impl Print, word: Word) -> Result<()> {
     match word {
-        Word::Key => both(key(fd), list(fd)),
-        Word::Mark => both(mark(fd), configuration(fd)),
-        Word::Bounds => both(bounds(fd), configuration(fd)),
-        Word::Explain => both(explain(fd), configuration(fd)),
-        Word::Loader => loader(fd),
-        Word::Block => block(fd),
-        Word::Text => text(fd),
-        Word::Install => install(fd),
-        Word::Help => all_words(fd),
-        Word::Unknown => all_words(fd),
+        Word::Key => both(key(rt), list(rt)),
+        Word::Mark => both(mark(rt), configuration(rt)),
+        Word::Bounds => both(bounds(rt), configuration(rt)),
+        Word::Explain => both(explain(rt), configuration(rt)),
+        Word::Loader => loader(rt),
+        Word::Block => block(rt),
+        Word::Text => text(rt),
+        Word::Install => install(rt),
+        Word::Help => rt.write_all(all_words()),
+        Word::Unknown => rt.write_all(all_words()),
     }
 }

@@ -1,7 +1,9 @@
 // The key program: a job block from standard input, and its key on standard output. What it decides is in `text::program`.
 #![tactic(auto)]
 
-use libc::{STDIN_FILENO, STDOUT_FILENO};
+const STDIN_FILENO: i32 = 0;
+
+const STDOUT_FILENO: i32 = 1;
 
 fn main() {
     let mut input = text::program::input();

@@ -1,8 +1,9 @@
 // What the arguments after the word ask for.
-use crate::say;
+use crate::{say, slices};
 use command::Argument;
 use command::span::Span;
-use libc::STDERR_FILENO;
+use std::env::FillError;
+use std::rt::Env;
 
 // The options and the names. What is wrong has been said where it is faulty. The first and the second name are the arguments of these
 // numbers; `inputs` counts those that are standard input; `awaits` is set before the numbers that follow an option, `of_priorities` where
@@ -178,13 +179,13 @@ fn with_option(asked: Asked, argument: Argument) -> Asked {
 }
 
 // An option that there is not, which is argument i.
-fn with_unknown(asked: Asked, i: usize) -> Asked {
+fn with_unknown(rt: &impl Env, asked: Asked, i: usize) -> Asked {
     if asked.faulty {
         return asked;
     }
     let mut next = asked;
     say::message(b"ruzhtylen: unknown option ");
-    say::argument(STDERR_FILENO, i);
+    say::argument(rt, i);
     say::message(b"; after -- a name may begin with --\n");
     next.faulty = true;
     next
@@ -220,7 +221,7 @@ fn is_name(argument: Argument) -> bool {
     }
 }
 
-fn with_word(asked: Asked, i: usize, word: &[u8]) -> Asked {
+fn with_word(rt: &impl Env, asked: Asked, i: usize, word: &[u8]) -> Asked {
     if asked.awaits {
         if asked.of_priorities {
             return with_priorities(asked, word);
@@ -235,25 +236,32 @@ fn with_word(asked: Asked, i: usize, word: &[u8]) -> Asked {
         return with_name(asked, i, word);
     }
     if is_unknown(argument) {
-        return with_unknown(asked, i);
+        return with_unknown(rt, asked, i);
     }
     with_option(asked, argument)
 }
 
 // What is asked with argument i too.
-pub fn with_argument(asked: Asked, i: usize) -> Asked {
+pub fn with_argument(rt: &impl Env, asked: Asked, i: usize) -> Asked {
     let mut word = io::buffer();
-    let length = os::arg(i, &mut word);
-    if os::errno() != 0 {
-        return with_fault(asked, b"an argument is longer than 4096 bytes\n");
+    match rt.arg(i, &mut word) {
+        Ok(length) => {
+            let end = slices::within(length, &word);
+            with_word(rt, asked, i, &word[..end])
+        }
+        Err(_) => with_fault(asked, b"an argument is longer than 4096 bytes\n"),
     }
-    with_word(asked, i, &word[..length])
 }
 
-// How many arguments there are.
-pub fn count() -> usize {
-    let count = os::arg_count();
-    if count < MOST { count } else { MOST }
+// How many arguments there are. Only whether there is one is asked, so that a byte of it is enough.
+pub fn count(rt: &impl Env) -> usize {
+    let mut start = [0u8; 1];
+    for i in 0..MOST {
+        if let Err(FillError::NotPresent) = rt.arg(i, &mut start) {
+            return i;
+        }
+    }
+    MOST
 }
 
 // That the numbers of an option are missing.
@@ -265,12 +273,12 @@ fn with_missing(asked: Asked) -> Asked {
 }
 
 // What all arguments after the word ask for.
-pub fn read() -> Asked {
-    let count = count();
+pub fn read(rt: &impl Env) -> Asked {
+    let count = count(rt);
     let mut asked = nothing();
     let mut i = 2;
     while i < count {
-        let next = with_argument(asked, i);
+        let next = with_argument(rt, asked, i);
         asked = next;
         i += 1;
     }

@@ -1,8 +1,10 @@
 // Files that are arguments, read whole. What goes wrong is said.
 ghost use Rattle.std.specs.Prelude.{◌≤◌, ◌≡◌, length};
 
-use crate::{say, slices};
-use libc::STDIN_FILENO;
+use crate::{arguments, say, slices};
+use std::fs;
+use std::io::Read;
+use std::rt::{Env, Files};
 
 // A byte more than the most that is read of a file, so that a longer one shows.
 pub const SIZE: usize = 65537;
@@ -46,17 +48,18 @@ fn append(chunk: &[u8], n: usize, room: &mut [u8], from: usize) -> usize
     at
 }
 
-// Reads a descriptor to its end, or until the room is full; `shown` is the file's name as it is shown.
-fn read_all(fd: i32, shown: &[u8], room: &mut [u8]) -> Got {
+// Reads a file to its end, or until the room is full; `shown` is the file's name as it is shown.
+fn read_all(file: &mut impl Read, shown: &[u8], room: &mut [u8]) -> Got {
     let mut chunk = io::buffer();
     let mut at = 0;
     while at < room.len() {
-        let got = libc::read(fd, &mut chunk);
-        if got < 0 {
-            os::fail(shown);
-            return failed();
-        }
-        let n = io::count(got, &chunk);
+        let n = match file.read(&mut chunk) {
+            Ok(n) => n,
+            Err(error) => {
+                say::fail(shown, error);
+                return failed();
+            }
+        };
         let next = append(&chunk, n, room, at);
         if next == at {
             return Got {
@@ -72,35 +75,55 @@ fn read_all(fd: i32, shown: &[u8], room: &mut [u8]) -> Got {
     }
 }
 
-fn read_named(name: &[u8], shown: &[u8], room: &mut [u8]) -> Got {
-    let fd = os::open_read(name);
-    if fd < 0 {
-        os::fail(shown);
-        return failed();
-    }
-    let got = read_all(fd, shown, &mut *room);
-    libc::close(fd);
-    got
+// A path of std is text, so that no file of such a name can be opened by it.
+fn refuse_name(shown: &[u8]) -> Got {
+    say::message(shown);
+    say::message(
+        b": a name that is not UTF-8 is not opened; hand the file in as standard input, -\n",
+    );
+    failed()
 }
 
-fn read_argument(i: usize, room: &mut [u8]) -> Got {
+fn read_text_named(rt: &impl Files, name: &str, shown: &[u8], room: &mut [u8]) -> Got {
+    match fs::open(rt, name) {
+        Ok(mut file) => read_all(&mut file, shown, room),
+        Err(error) => {
+            say::fail(shown, error);
+            failed()
+        }
+    }
+}
+
+fn read_named(rt: &impl Files, name: &[u8], shown: &[u8], room: &mut [u8]) -> Got {
+    match str::from_utf8(name) {
+        Ok(name) => read_text_named(rt, name, shown, room),
+        Err(_) => refuse_name(shown),
+    }
+}
+
+fn read_input(rt: &impl Input, room: &mut [u8]) -> Got {
+    let mut input = rt.reader();
+    read_all(&mut input, b"standard input", room)
+}
+
+fn read_argument(rt: &(impl Env + Files + Input), i: usize, room: &mut [u8]) -> Got {
     let mut name = io::buffer();
-    let length = os::arg(i, &mut name);
+    let length = arguments::read(rt, i, &mut name);
     if same_bytes::same_bytes(&name[..length], b"-") {
-        return read_all(STDIN_FILENO, b"standard input", &mut *room);
+        return read_input(rt, room);
     }
     let mut shown = io::buffer();
-    let shown_length = os::arg(i, &mut shown);
+    let shown_length = arguments::read(rt, i, &mut shown);
     command::show(&mut shown);
     let shown_end = slices::within(shown_length, &shown);
-    read_named(&name[..length], &shown[..shown_end], &mut *room)
+    read_named(rt, &name[..length], &shown[..shown_end], room)
 }
 
 // Reads the file that is argument i.
-pub fn read(i: usize, room: &mut [u8]) -> Got {
-    let got = read_argument(i, &mut *room);
+pub fn read(rt: &(impl Env + Files + Input), i: usize, room: &mut [u8]) -> Got {
+    let got = read_argument(rt, i, &mut *room);
     if got.count == SIZE {
-        say::about(i, b"longer than 65536 bytes, the most that is read\n");
+        say::about(rt, i, b"longer than 65536 bytes, the most that is read\n");
         return failed();
     }
     got

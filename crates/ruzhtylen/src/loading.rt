@@ -8,20 +8,21 @@ use kernel::record::KernelRecord;
 use lists::fields::Form;
 use records::job::Job;
 use records::refusal::{Counted, Verdict};
+use std::rt::{Env, Files};
 
 // The bytes of the records of as many jobs as there can be.
 const SIZE: usize = KernelRecord::SIZE * Job::MOST;
 
 // Prints the kernel records in a block: its bytes, or a line per record.
-fn print_kernels(as_bytes: bool, block: &[u8]) -> u8 {
+fn print_kernels(rt: &impl Print, as_bytes: bool, block: &[u8]) -> u8 {
     if as_bytes {
-        return say::answer(say::YES, block);
+        return say::answer(rt, say::YES, block);
     }
     let kernels = kernel::block::read_unjudged(block);
     let mut output = [0u8; tables::KERNEL_SIZE];
     let n = block.len() / KernelRecord::SIZE;
     let length = tables::put_kernel_table(kernels, n, &mut output);
-    say::answer(say::YES, &output[..length])
+    say::answer(rt, say::YES, &output[..length])
 }
 
 // The size of a record for each job of a list.
@@ -29,8 +30,13 @@ fn need(list: Source) -> usize {
     KernelRecord::SIZE * Job::at_most(list.kept / Job::SIZE)
 }
 
-fn there(asked: Asked, list: Source, quanta: Quanta) -> u8 {
-    let hand_in = source::load(asked.second, Form::Setting, asked.blocks);
+fn there(
+    rt: &(impl Env + Files + Input + Print),
+    asked: Asked,
+    list: Source,
+    quanta: Quanta,
+) -> u8 {
+    let hand_in = source::load(rt, asked.second, Form::Setting, asked.blocks);
     if !hand_in.ok {
         return say::NOT_ANSWERED;
     }
@@ -49,18 +55,18 @@ fn there(asked: Asked, list: Source, quanta: Quanta) -> u8 {
         &mut output,
     );
     if let Verdict::Refused(refusal) = answer {
-        return refused::refuse_hand_in(asked.second, hand_in, list, quanta, refusal.number());
+        return refused::refuse_hand_in(rt, asked.second, hand_in, list, quanta, refusal.number());
     }
     let size = slices::within(need(list), &output);
-    print_kernels(asked.bytes, &output[..size])
+    print_kernels(rt, asked.bytes, &output[..size])
 }
 
 fn is_block(asked: Asked) -> bool {
     if asked.blocks { true } else { asked.bytes }
 }
 
-fn back(asked: Asked, list: Source, quanta: Quanta) -> u8 {
-    let loaded = source::load(asked.second, Form::Kernel, is_block(asked));
+fn back(rt: &(impl Env + Files + Input + Print), asked: Asked, list: Source, quanta: Quanta) -> u8 {
+    let loaded = source::load(rt, asked.second, Form::Kernel, is_block(asked));
     if !loaded.ok {
         return say::NOT_ANSWERED;
     }
@@ -81,6 +87,7 @@ fn back(asked: Asked, list: Source, quanta: Quanta) -> u8 {
     );
     if let Verdict::Refused(refusal) = answer {
         return refused::refuse_kernels(
+            rt,
             asked.second,
             loaded,
             list,
@@ -90,11 +97,11 @@ fn back(asked: Asked, list: Source, quanta: Quanta) -> u8 {
         );
     }
     let size = slices::within(need(list), &output);
-    texts::print_settings(&output[..size])
+    texts::print_settings(rt, &output[..size])
 }
 
 // Whether the priorities are refused for a list and a range that are accepted; then why is said.
-fn is_refused(asked: Asked, list: Source, quanta: Quanta) -> bool {
+fn is_refused(rt: &impl Env, asked: Asked, list: Source, quanta: Quanta) -> bool {
     let bytes = list.bytes;
     let kept = slices::within(list.kept, &bytes);
     let lowest = KernelPriority(asked.lowest);
@@ -102,26 +109,33 @@ fn is_refused(asked: Asked, list: Source, quanta: Quanta) -> bool {
     let call = kernel::call::read_call(&bytes[..kept], quanta.low, quanta.high, lowest, highest);
     let answer = call.answer;
     if let Counted::Refused(refusal) = answer {
-        refused::refuse_priorities(list, kept / Job::SIZE, lowest, highest, refusal.number());
+        refused::refuse_priorities(
+            rt,
+            list,
+            kept / Job::SIZE,
+            lowest,
+            highest,
+            refusal.number(),
+        );
         return true;
     }
     false
 }
 
-pub fn loader(asked: Asked) -> u8 {
-    let list = source::load(asked.first, Form::Job, asked.blocks);
+pub fn loader(rt: &(impl Env + Files + Input + Print), asked: Asked) -> u8 {
+    let list = source::load(rt, asked.first, Form::Job, asked.blocks);
     if !list.ok {
         return say::NOT_ANSWERED;
     }
     let quanta = quanta::quanta_of(asked, list);
-    if refused::is_refused(asked, list, quanta) {
+    if refused::is_refused(rt, asked, list, quanta) {
         return say::NOT_ANSWERED;
     }
-    if is_refused(asked, list, quanta) {
+    if is_refused(rt, asked, list, quanta) {
         return say::NOT_ANSWERED;
     }
     if asked.back {
-        return back(asked, list, quanta);
+        return back(rt, asked, list, quanta);
     }
-    there(asked, list, quanta)
+    there(rt, asked, list, quanta)
 }

@@ -2,6 +2,7 @@
 // standard error, and the status, a digit, to descriptor 3.
 #![tactic(auto)]
 
+mod arguments;
 mod asked;
 mod files;
 mod hand_ins;
@@ -16,7 +17,7 @@ mod words;
 
 use asked::Asked;
 use command::Word;
-use libc::{STDERR_FILENO, STDOUT_FILENO};
+use std::rt::{Env, Files};
 
 fn wrong(text: &[u8]) -> u8 {
     say::message(b"ruzhtylen: ");
@@ -35,27 +36,27 @@ fn has_loader_option(asked: Asked) -> bool {
     asked.bytes
 }
 
-fn key(asked: Asked) -> u8 {
+fn key(rt: &(impl Env + Files + Input + Print), asked: Asked) -> u8 {
     if asked.configuration {
         return wrong(b"--configuration is an option of block and text\n");
     }
     if asked.names != 1 {
         return wrong(b"key takes one LIST; 'ruzhtylen help key' says more\n");
     }
-    words::key(asked)
+    words::key(rt, asked)
 }
 
-fn mark(asked: Asked) -> u8 {
+fn mark(rt: &(impl Env + Files + Input + Print), asked: Asked) -> u8 {
     if asked.configuration {
         return wrong(b"--configuration is an option of block and text\n");
     }
     if asked.names < 2 {
         return wrong(b"mark takes a LIST and a HAND-IN or more; 'ruzhtylen help mark' says more\n");
     }
-    hand_ins::mark(asked)
+    hand_ins::mark(rt, asked)
 }
 
-fn bounds(asked: Asked) -> u8 {
+fn bounds(rt: &(impl Env + Files + Input + Print), asked: Asked) -> u8 {
     if asked.configuration {
         return wrong(b"--configuration is an option of block and text\n");
     }
@@ -64,10 +65,10 @@ fn bounds(asked: Asked) -> u8 {
             b"bounds takes a LIST and a CONFIGURATION; 'ruzhtylen help bounds' says more\n",
         );
     }
-    words::bounds(asked)
+    words::bounds(rt, asked)
 }
 
-fn explain(asked: Asked) -> u8 {
+fn explain(rt: &(impl Env + Files + Input + Print), asked: Asked) -> u8 {
     if asked.configuration {
         return wrong(b"--configuration is an option of block and text\n");
     }
@@ -76,10 +77,10 @@ fn explain(asked: Asked) -> u8 {
             b"explain takes a LIST and a CONFIGURATION; 'ruzhtylen help explain' says more\n",
         );
     }
-    words::explain(asked)
+    words::explain(rt, asked)
 }
 
-fn loader(asked: Asked) -> u8 {
+fn loader(rt: &(impl Env + Files + Input + Print), asked: Asked) -> u8 {
     if asked.configuration {
         return wrong(b"--configuration is an option of block and text\n");
     }
@@ -93,10 +94,10 @@ fn loader(asked: Asked) -> u8 {
             b"loader needs --priorities LOWEST-HIGHEST, those that the kernel has, as 1-99\n",
         );
     }
-    loading::loader(asked)
+    loading::loader(rt, asked)
 }
 
-fn change_form(asked: Asked, to_block: bool) -> u8 {
+fn change_form(rt: &(impl Env + Files + Input + Print), asked: Asked, to_block: bool) -> u8 {
     if asked.ranged {
         return wrong(b"--quanta is an option of key, mark, bounds, explain and loader\n");
     }
@@ -107,22 +108,22 @@ fn change_form(asked: Asked, to_block: bool) -> u8 {
         return wrong(b"block and text take one FILE; 'ruzhtylen help' says more\n");
     }
     if to_block {
-        return words::block(asked);
+        return words::block(rt, asked);
     }
-    texts::text(asked)
+    texts::text(rt, asked)
 }
 
 // The word that is argument i; an unknown one where there is none.
-fn word_at(i: usize) -> Word {
+fn word_at(rt: &impl Env, i: usize) -> Word {
     let mut argument = io::buffer();
-    let length = os::arg(i, &mut argument);
+    let length = arguments::read(rt, i, &mut argument);
     command::word_of(&argument[..length])
 }
 
 // That argument i is no word.
-fn unknown(i: usize) -> u8 {
+fn unknown(rt: &impl Env, i: usize) -> u8 {
     say::message(b"ruzhtylen: unknown word ");
-    say::argument(STDERR_FILENO, i);
+    say::argument(rt, i);
     say::message(b"; 'ruzhtylen help' lists the words\n");
     say::NOT_ANSWERED
 }
@@ -134,30 +135,32 @@ fn is_unknown(word: Word) -> bool {
     false
 }
 
-fn say_help() -> u8 {
-    let count = asked::count();
+fn say_help(rt: &(impl Env + Print)) -> u8 {
+    let count = asked::count(rt);
     if 3 < count {
         return wrong(b"help takes one WORD or none\n");
     }
-    let word = word_at(2);
+    let word = word_at(rt, 2);
     if count == 3 {
         if is_unknown(word) {
-            return unknown(2);
+            return unknown(rt, 2);
         }
     }
-    if help::help(STDOUT_FILENO, word) {
-        return say::YES;
+    match help::help(rt, word) {
+        Ok(()) => say::YES,
+        Err(error) => {
+            say::fail(b"standard output", error);
+            say::NOT_ANSWERED
+        }
     }
-    os::fail(b"standard output");
-    say::NOT_ANSWERED
 }
 
 // Without a word all words are told.
-fn no_word() -> u8 {
-    if 1 < asked::count() {
-        return unknown(1);
+fn no_word(rt: &impl Env) -> u8 {
+    if 1 < asked::count(rt) {
+        return unknown(rt, 1);
     }
-    help::help(STDERR_FILENO, Word::Unknown);
+    say::message(help::all_words());
     say::NOT_ANSWERED
 }
 
@@ -183,7 +186,7 @@ fn is_loader(word: Word) -> bool {
 }
 
 // Answers a word that takes files, and gives the status.
-fn answer(word: Word, asked: Asked) -> u8 {
+fn answer(rt: &(impl Env + Files + Input + Print), word: Word, asked: Asked) -> u8 {
     if asked.faulty {
         return say::NOT_ANSWERED;
     }
@@ -198,24 +201,24 @@ fn answer(word: Word, asked: Asked) -> u8 {
         }
     }
     match word {
-        Word::Key => key(asked),
-        Word::Mark => mark(asked),
-        Word::Bounds => bounds(asked),
-        Word::Explain => explain(asked),
-        Word::Loader => loader(asked),
-        Word::Block => change_form(asked, true),
-        Word::Text => change_form(asked, false),
-        _ => no_word(),
+        Word::Key => key(rt, asked),
+        Word::Mark => mark(rt, asked),
+        Word::Bounds => bounds(rt, asked),
+        Word::Explain => explain(rt, asked),
+        Word::Loader => loader(rt, asked),
+        Word::Block => change_form(rt, asked, true),
+        Word::Text => change_form(rt, asked, false),
+        _ => no_word(rt),
     }
 }
 
-fn main() {
-    let word = word_at(1);
+fn main(rt: HostRuntime) {
+    let word = word_at(&rt, 1);
     let status = match word {
         Word::Install => install(),
-        Word::Help => say_help(),
-        Word::Unknown => no_word(),
-        _ => answer(word, asked::read()),
+        Word::Help => say_help(&rt),
+        Word::Unknown => no_word(&rt),
+        _ => answer(&rt, word, asked::read(&rt)),
     };
     say::status(status);
 }

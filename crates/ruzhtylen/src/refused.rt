@@ -8,6 +8,7 @@ use limits::Limits;
 use reasons::reason::{Reason, Sentence};
 use records::job::Job;
 use records::refusal::Counted;
+use std::rt::Env;
 
 // Whether what is said is about a range that an option gave: refusal 6, and of refusal 15 what it says of quanta.
 fn is_of_option(optioned: bool, number: u8, sentence: Sentence) -> bool {
@@ -24,7 +25,7 @@ fn is_of_option(optioned: bool, number: u8, sentence: Sentence) -> bool {
 }
 
 // A range that an option gave is no file's, and priorities are always an option's.
-fn say_about(i: usize, of_option: bool, number: u8, text: &[u8]) {
+fn say_about(rt: &impl Env, i: usize, of_option: bool, number: u8, text: &[u8]) {
     if of_option {
         say::message(b"--quanta: ");
         say::message(text);
@@ -35,23 +36,37 @@ fn say_about(i: usize, of_option: bool, number: u8, text: &[u8]) {
         say::message(text);
         return;
     }
-    say::about(i, text);
+    say::about(rt, i, text);
 }
 
 // Says a refusal of the file that is argument i, or of the option.
-fn say_refusal(i: usize, number: u8, optioned: bool, source: Source, reason: Reason) -> u8 {
+fn say_refusal(
+    rt: &impl Env,
+    i: usize,
+    number: u8,
+    optioned: bool,
+    source: Source,
+    reason: Reason,
+) -> u8 {
     let naming = source.naming;
     let lines = source.lines;
     let sentence = reason.sentence;
     let of_option = is_of_option(optioned, number, sentence);
     let mut output = [0u8; messages::refusal::SIZE];
     let length = messages::refusal::put_refusal(number, naming, lines, reason, &mut output);
-    say_about(i, of_option, number, &output[..length]);
+    say_about(rt, i, of_option, number, &output[..length]);
     say::NOT_ANSWERED
 }
 
 // Says why a list or the range is refused; the list is argument i, and `optioned` says that the range is an option's.
-pub fn refuse_list(i: usize, optioned: bool, list: Source, quanta: Quanta, number: u8) -> u8 {
+pub fn refuse_list(
+    rt: &impl Env,
+    i: usize,
+    optioned: bool,
+    list: Source,
+    quanta: Quanta,
+    number: u8,
+) -> u8 {
     let bytes = list.bytes;
     let kept = slices::within(list.kept, &bytes);
     let jobs = records::block::read_unjudged(&bytes[..kept]);
@@ -63,11 +78,18 @@ pub fn refuse_list(i: usize, optioned: bool, list: Source, quanta: Quanta, numbe
         quanta.low,
         quanta.high,
     );
-    say_refusal(i, number, optioned, list, reason)
+    say_refusal(rt, i, number, optioned, list, reason)
 }
 
 // Says why a configuration is refused for a list and a range that are accepted; the configuration is argument i.
-pub fn refuse_hand_in(i: usize, hand_in: Source, list: Source, quanta: Quanta, number: u8) -> u8 {
+pub fn refuse_hand_in(
+    rt: &impl Env,
+    i: usize,
+    hand_in: Source,
+    list: Source,
+    quanta: Quanta,
+    number: u8,
+) -> u8 {
     let jobs = list.bytes;
     let jobs_kept = slices::within(list.kept, &jobs);
     let bytes = hand_in.bytes;
@@ -84,11 +106,12 @@ pub fn refuse_hand_in(i: usize, hand_in: Source, list: Source, quanta: Quanta, n
         jobs_kept / Job::SIZE,
         range,
     );
-    say_refusal(i, number, false, hand_in, reason)
+    say_refusal(rt, i, number, false, hand_in, reason)
 }
 
 // Says why kernel records are refused for a list, a range and priorities that are accepted; the records are argument i.
 pub fn refuse_kernels(
+    rt: &impl Env,
     i: usize,
     loaded: Source,
     list: Source,
@@ -113,11 +136,12 @@ pub fn refuse_kernels(
         range,
         highest,
     );
-    say_refusal(i, number, false, loaded, reason)
+    say_refusal(rt, i, number, false, loaded, reason)
 }
 
 // Says why the priorities are refused for n jobs, those of a list.
 pub fn refuse_priorities(
+    rt: &impl Env,
     list: Source,
     n: usize,
     lowest: KernelPriority,
@@ -125,28 +149,35 @@ pub fn refuse_priorities(
     number: u8,
 ) -> u8 {
     let reason = reasons::kernels::priorities_reason(number, n, lowest, highest);
-    say_refusal(0, number, true, list, reason)
+    say_refusal(rt, 0, number, true, list, reason)
 }
 
 // Says why the list that is asked about, or the range, is refused by a box with limits.
-fn refuse_call(asked: Asked, limits: Limits, list: Source, quanta: Quanta, number: u8) -> u8 {
+fn refuse_call(
+    rt: &impl Env,
+    asked: Asked,
+    limits: Limits,
+    list: Source,
+    quanta: Quanta,
+    number: u8,
+) -> u8 {
     if number == 15 {
         let n = list.kept / Job::SIZE;
         let reason = reasons::limited::limits_reason(number, limits, n, quanta.high);
-        return say_refusal(asked.first, number, asked.ranged, list, reason);
+        return say_refusal(rt, asked.first, number, asked.ranged, list, reason);
     }
-    refuse_list(asked.first, asked.ranged, list, quanta, number)
+    refuse_list(rt, asked.first, asked.ranged, list, quanta, number)
 }
 
 // Whether the list that is asked about, or the range, is refused by the box that is asked for; then why is said.
-pub fn is_refused(asked: Asked, list: Source, quanta: Quanta) -> bool {
+pub fn is_refused(rt: &impl Env, asked: Asked, list: Source, quanta: Quanta) -> bool {
     let limits = Limits::of_box(asked.gate);
     let bytes = list.bytes;
     let kept = slices::within(list.kept, &bytes);
     let call = limits::read_call(limits, &bytes[..kept], quanta.low, quanta.high);
     let answer = call.answer;
     if let Counted::Refused(refusal) = answer {
-        refuse_call(asked, limits, list, quanta, refusal.number());
+        refuse_call(rt, asked, limits, list, quanta, refusal.number());
         return true;
     }
     false

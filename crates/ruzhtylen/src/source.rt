@@ -8,6 +8,7 @@ use lists::fields::Form;
 use lists::rows::RowsAnswer;
 use messages::refusal::Naming;
 use records::job::Job;
+use std::rt::{Env, Files};
 
 // A byte more than the longest block, so that a longer one shows.
 pub const SIZE: usize = 65;
@@ -85,17 +86,17 @@ fn line_numbers(at: [usize; Job::MOST]) -> [u32; Job::MOST] {
     lines
 }
 
-fn say_fault(i: usize, line: usize, fault: Fault) {
+fn say_fault(rt: &impl Env, i: usize, line: usize, fault: Fault) {
     let mut output = [0u8; messages::fault::SIZE];
     let length = messages::fault::put_fault((line % 4294967296) as u32, fault, &mut output);
-    say::about(i, &output[..length]);
+    say::about(rt, i, &output[..length]);
 }
 
-fn of_text(i: usize, form: Form, content: &[u8]) -> Source {
+fn of_text(rt: &impl Env, i: usize, form: Form, content: &[u8]) -> Source {
     let read = lists::blocks::read_block(form, content);
     let answer = read.answer;
     if let RowsAnswer::Faulty(line, fault) = answer {
-        say_fault(i, line, fault);
+        say_fault(rt, i, line, fault);
         return failed();
     }
     let block = read.bytes;
@@ -115,9 +116,9 @@ fn of_text(i: usize, form: Form, content: &[u8]) -> Source {
 }
 
 // The list, the configuration or the kernel records in the file that is argument i.
-pub fn load(i: usize, form: Form, is_block: bool) -> Source {
+pub fn load(rt: &(impl Env + Files + Input), i: usize, form: Form, is_block: bool) -> Source {
     let mut content = files::room();
-    let got = files::read(i, &mut content);
+    let got = files::read(rt, i, &mut content);
     if !got.ok {
         return failed();
     }
@@ -125,5 +126,5 @@ pub fn load(i: usize, form: Form, is_block: bool) -> Source {
     if is_block {
         return of_block(&content[..count]);
     }
-    of_text(i, form, &content[..count])
+    of_text(rt, i, form, &content[..count])
 }

@@ -1,6 +1,7 @@
 // An output frame: the refusal's number or the numbers that are given, and the blocks. The frames are those of reference/README.md.
-use libc::STDOUT_FILENO;
 use records::refusal::{Counted, Refusal, Verdict};
+
+const STDOUT_FILENO: i32 = 1;
 
 // The refusal's number, 0 where there is none, and how many numbers are given.
 #[derive(Clone, Copy)]
