@@ -1,4 +1,5 @@
-/* Ruzhtylen's entries for callers in C: link target/staticlib/libcapi.a, which `rt staticlib capi` writes, or an installed libruzhtylen.a.
+/* Ruzhtylen's entries for callers in C: link crates/capi/out/libcapi.a, which `rt lib` in crates/capi writes, or an installed
+   libruzhtylen.a.
    A slice is a pointer and its length. Blocks are those of the scope document, two-byte numbers with the high byte first; the second
    byte of a job record is the job's delay.
    low and high are the range of the quanta, from 1 to at most 64, and to at most 16 at the start gate. lowest and highest are the
