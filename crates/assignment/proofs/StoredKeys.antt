@@ -14,7 +14,6 @@ use lib.Dec.{eqb, ltb}
 use lib.ListN.{length, get_or}
 use lib.Pow.{pow-lt}
 use borrow.Author.Tests.{eq-eqb, ne_eqb, eqb-true}
-use Rattle.sets.specs.Places.{every}
 use Rattle.sets.specs.Sets.{places, has, single, rest, remove, within, size, first_jobs, but, Alone}
 use Rattle.sets.specs.Order.{subsets, first_taken, considered, considered_count, Pairwise, BySize}
 use Rattle.sets.proofs.Places.{every-same, list_same}

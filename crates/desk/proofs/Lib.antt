@@ -1,3 +1,1 @@
 pub mod Editing
-pub mod Numbers
-pub mod Front

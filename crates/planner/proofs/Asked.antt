@@ -17,7 +17,7 @@ use Rattle.records.specs.Limits.{most_jobs}
 use Rattle.records.specs.Jobs.{blank_job, job_at}
 use Rattle.records.specs.declared.job.Job.{Job}
 use Rattle.response.specs.Demand.{bound}
-use Rattle.search.specs.Search.{workload, bound_by}
+use Rattle.search.specs.Search.{bound_by}
 use Rattle.search.specs.declared.workload.Workload.{Workload}
 use Rattle.response.proofs.Easier.{bound-take}
 use Rattle.search.proofs.BothBounds.{bound-found}

@@ -1,5 +1,5 @@
 -- The job block and the job table: what a record means, which refusal applies first, what is read and what is written. Assumes nothing.
-use Rattle.std.specs.Prelude.{ℕ, zero, suc, ◌+◌, ◌*◌, ◌/◌, ◌%◌, List, [], ◌∷◌, ◌++◌, Bool, ◌&&◌, ◌≡◌, length, get_or, take, ltb, leb, eqb}
+use Rattle.std.specs.Prelude.{ℕ, zero, suc, ◌*◌, ◌/◌, ◌%◌, List, [], ◌∷◌, ◌++◌, Bool, ◌&&◌, ◌≡◌, length, get_or, take, ltb, leb, eqb}
 use Rattle.sets.specs.Places.{every}
 use Rattle.records.specs.Limits.{longest_period, longest_deadline, most_jobs}
 use Rattle.records.specs.Refusals.{Answer, refused, given, number, Tests, outcome, counted, Accepts}

@@ -7,7 +7,6 @@ use native.Mathlib.Omega.{arith}
 use lib.ListN.{length, take}
 use lib.Seq.{take_all, length-take-le}
 use borrow.Author.Tests.{le-leb, lt-leb}
-use Rattle.records.specs.Refusals.{refused}
 use Rattle.text.specs.Keys.{refused_text, key_of, program_key, program_reads}
 
 -- A block of more than 64 bytes is refused for its size.

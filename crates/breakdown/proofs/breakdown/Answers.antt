@@ -20,7 +20,7 @@ use Rattle.parts.specs.Breakdowns.{parts_in, breakdown_of}
 use Rattle.breakdown.specs.Breakdowns.{parts_size, parts_bytes, broken_down, breakdown_outcome}
 use Rattle.breakdown.proofs.Holding.{breakdown-promise}
 use Rattle.breakdown.proofs.breakdown.Goals as goal
-use Rattle.breakdown.proofs.breakdown.Goals.{In-Count-2, Start}
+use Rattle.breakdown.proofs.breakdown.Goals.{In-Count, Start}
 
 -- What the call is to come to.
 module _ (c : Start) where
@@ -60,9 +60,9 @@ returns-in-Refused c =
     _ c.in-Refused.is)
 
 -- The number of jobs that was told is that of the list.
-jobs-counted : (c : In-Count-2) → length (job_list (jobs (goal.at.In-Count-2 c).Start)) ≡ c.in-Count.n
+jobs-counted : (c : In-Count) → length (job_list (jobs (goal.at.In-Count c).Start)) ≡ c.in-Count.n
 jobs-counted c =
-    jobs-listed (jobs (goal.at.In-Count-2 c).Start) ∙ sym (call-knows (jobs (goal.at.In-Count-2 c).Start) c.args.low c.args.high [] _ c.read_call-call.ensures _ c.in-Count.is).1.count
+    jobs-listed (jobs (goal.at.In-Count c).Start) ∙ sym (call-knows (jobs (goal.at.In-Count c).Start) c.args.low c.args.high [] _ c.read_call-call.ensures _ c.in-Count.is).1.count
 
 pub returns : goal.returns
 unfolding breakdown_outcome read_settings
@@ -73,7 +73,7 @@ returns c =
     let count : length (each-parts (goal.at.returns c).Start) ≡ length (job_list (jobs (goal.at.returns c).Start)) = list_length (parts_in (job_list (jobs (goal.at.returns c).Start)) (settings_of (jobs (goal.at.returns c).Start) (block (goal.at.returns c).Start))) (length (job_list (jobs (goal.at.returns c).Start))) in
     let first : take n c.breakdown_of-each.result ≡ each-parts (goal.at.returns c).Start =
     ap (take n) (c.breakdown_of-each.ensures ∙ ap₂ (λ (l : List Job) (x : List Setting). table most_jobs no_parts (breakdown_of l x)) on.0.list on.0.settings)
-    ∙ take-table most_jobs no_parts n (each-parts (goal.at.returns c).Start) (count ∙ jobs-counted (goal.at.returns c).In-Count-2) in
+    ∙ take-table most_jobs no_parts n (each-parts (goal.at.returns c).Start) (count ∙ jobs-counted (goal.at.returns c).In-Count) in
     breakdown-promise (jobs (goal.at.returns c).Start) c.args.low c.args.high (block (goal.at.returns c).Start) (output (goal.at.returns c).Start) _
     (wrote-done parts_size parts_bytes (each-parts (goal.at.returns c).Start) (output (goal.at.returns c).Start) c.write_parts-wrote.result _
     (c.write_parts-wrote.ensures ∙ ap (λ (l : List Parts). write_records parts_size parts_bytes l (output (goal.at.returns c).Start)) first) _ c.verdict_of.ensures

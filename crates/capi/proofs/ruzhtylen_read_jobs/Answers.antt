@@ -9,19 +9,19 @@ use Rattle.records.specs.declared.refusal.Counted.{Counted}
 use Rattle.records.proofs.Reading.{jobs-read, count_most}
 use Rattle.capi.specs.Words.{word, count_value}
 use Rattle.capi.proofs.ruzhtylen_read_jobs.Goals as goal
-use Rattle.capi.proofs.ruzhtylen_read_jobs.Goals.{In-Count-2}
+use Rattle.capi.proofs.ruzhtylen_read_jobs.Goals.{In-Count}
 
-few : (c : In-Count-2) → c.in-Count.n ≤ most_jobs
+few : (c : In-Count) → c.in-Count.n ≤ most_jobs
 few c =
     let block = c.args.jobs.now in
     let known = jobs-read block _ c.read_jobs-read.ensures _ c.in-Count.is in
     omega (arith, count_most block known.0, known.1)
 
 pub overflow_cast-result : goal.overflow_cast-result
-overflow_cast-result c = record { fits = omega (arith, few (goal.at.overflow_cast-result c).In-Count-2) }
+overflow_cast-result c = record { fits = omega (arith, few (goal.at.overflow_cast-result c).In-Count) }
 
 pub overflow_mul-result : goal.overflow_mul-result
-overflow_mul-result c = record { fits = omega (arith, few (goal.at.overflow_mul-result c).In-Count-2) }
+overflow_mul-result c = record { fits = omega (arith, few (goal.at.overflow_mul-result c).In-Count) }
 
 pub returns-in-Count : goal.returns-in-Count
 returns-in-Count c =

@@ -1,3 +1,4 @@
+use borrow.Author.Rules.{rules}
 use Prim.Native.Nat.{ℕ}
 use mathlib.Core.Path.{◌≡◌, refl, sym, ap, ap₂, ◌∙◌}
 use mathlib.Core.Bool.{Bool}
@@ -18,7 +19,7 @@ use Rattle.marking.proofs.HandInTexts.{none_over_lem}
 use Rattle.writing.proofs.Writing.{whole}
 use Rattle.explaining.proofs.Explaining.{rows_are, text-is}
 use Rattle.explaining.proofs.explain.Goals as goal
-use Rattle.explaining.proofs.explain.Goals.{Start}
+use Rattle.explaining.proofs.explain.Goals.{After-at_most, Start}
 
 -- What the call is to come to.
 module _ (c : Start) where
@@ -85,5 +86,5 @@ returns c =
           (wrote.2.bytes ∙ ap (sets (output (goal.at.returns c).Start) 0) same)
           ∙ on.1,
       wrote.1,
-      (whole wrote.2 (put-explanation-requires (goal.at.returns c).After-at_most c.put_explanation.lifetimes).1).0,
+      (whole wrote.2 (search rules)).0,
     )

@@ -6,9 +6,10 @@ use Rattle.planner.proofs.Promising.{put-turned, put_on}
 use Rattle.gate.specs.Outcomes.{plan_within}
 use Rattle.gate.proofs.Promising.{plan-promise}
 use Rattle.gate.proofs.plan_within.Goals as goal
+use Rattle.gate.proofs.plan_within.Goals.{Start}
 
 -- What the limits ask of the call.
-abbrev more : tie.Start → Tests
+abbrev more : Start → Tests
 more s = limit_tests s.args.limits (job_count s.args.jobs.now) s.args.high
 
 pub returns-in_default : goal.returns-in_default

@@ -20,7 +20,7 @@ use Rattle.kernel.specs.KernelRecords.{kernel_size, kernel_bytes, blank_kernel, 
 use Rattle.kernel.specs.Conversions.{kernels_of, to_kernel_outcome}
 use Rattle.kernel.proofs.RoundTrip.{to-kernel-promise}
 use Rattle.kernel.proofs.to_kernel.Goals as goal
-use Rattle.kernel.proofs.to_kernel.Goals.{In-Count-2, Start}
+use Rattle.kernel.proofs.to_kernel.Goals.{In-Count, Start}
 
 -- What the call is to come to.
 module _ (c : Start) where
@@ -63,13 +63,13 @@ returns-in-Refused c =
     _ c.in-Refused.is)
 
 -- The number of jobs that was told is that of the list, and of the settings.
-jobs-counted : (c : In-Count-2) → c.in-Count.n ≡ length (job_list (jobs (goal.at.In-Count-2 c).Start))
+jobs-counted : (c : In-Count) → c.in-Count.n ≡ length (job_list (jobs (goal.at.In-Count c).Start))
 jobs-counted c =
-    (call-knows (jobs (goal.at.In-Count-2 c).Start) c.args.low c.args.high (more (goal.at.In-Count-2 c).Start) _ c.read_call-call.ensures _ c.in-Count.is).1.count ∙ sym (jobs-listed (jobs (goal.at.In-Count-2 c).Start))
+    (call-knows (jobs (goal.at.In-Count c).Start) c.args.low c.args.high (more (goal.at.In-Count c).Start) _ c.read_call-call.ensures _ c.in-Count.is).1.count ∙ sym (jobs-listed (jobs (goal.at.In-Count c).Start))
 
-counted-jobs : (c : In-Count-2) → length (settings_of (jobs (goal.at.In-Count-2 c).Start) (block (goal.at.In-Count-2 c).Start)) ≡ c.in-Count.n
+counted-jobs : (c : In-Count) → length (settings_of (jobs (goal.at.In-Count c).Start) (block (goal.at.In-Count c).Start)) ≡ c.in-Count.n
 counted-jobs c =
-    length-chunks setting_size setting_of (length (job_list (jobs (goal.at.In-Count-2 c).Start))) (block (goal.at.In-Count-2 c).Start) ∙ sym (jobs-counted c)
+    length-chunks setting_size setting_of (length (job_list (jobs (goal.at.In-Count c).Start))) (block (goal.at.In-Count c).Start) ∙ sym (jobs-counted c)
 
 pub returns : goal.returns
 unfolding to_kernel_outcome read_full
@@ -77,7 +77,7 @@ returns c =
     let on = hand-in-on (jobs (goal.at.returns c).Start) c.args.low c.args.high (more (goal.at.returns c).Start) _ c.read_call-call.ensures _ c.in-Count.is (block (goal.at.returns c).Start) (tests (goal.at.returns c).Start) _ c.read_full-read.ensures (room (goal.at.returns c).Start) tt (new (goal.at.returns c).Start) (output (goal.at.returns c).Start)
     _ c.in_default-judged.is in
     to-kernel-promise (jobs (goal.at.returns c).Start) c.args.low c.args.high c.args.lowest c.args.highest (block (goal.at.returns c).Start) (output (goal.at.returns c).Start) _
-    (made-written (to_kernel_record c.args.highest) blank_kernel most_jobs kernel_size kernel_bytes _ c.read_full-read.result.settings (settings_of (jobs (goal.at.returns c).Start) (block (goal.at.returns c).Start)) on.0.settings (counted-jobs (goal.at.returns c).In-Count-2)
+    (made-written (to_kernel_record c.args.highest) blank_kernel most_jobs kernel_size kernel_bytes _ c.read_full-read.result.settings (settings_of (jobs (goal.at.returns c).Start) (block (goal.at.returns c).Start)) on.0.settings (counted-jobs (goal.at.returns c).In-Count)
     _ c.to_kernel_records-kernels.ensures (output (goal.at.returns c).Start) c.write_kernels-wrote.result _ c.write_kernels-wrote.ensures _ c.verdict_of.ensures
-    ∙ ap (λ (m : ℕ). outcome (room_tests (kernel_size * m) (length (output (goal.at.returns c).Start))) tt (new (goal.at.returns c).Start) (output (goal.at.returns c).Start)) (jobs-counted (goal.at.returns c).In-Count-2)
+    ∙ ap (λ (m : ℕ). outcome (room_tests (kernel_size * m) (length (output (goal.at.returns c).Start))) tt (new (goal.at.returns c).Start) (output (goal.at.returns c).Start)) (jobs-counted (goal.at.returns c).In-Count)
     ∙ on.1)

@@ -1,3 +1,4 @@
+use borrow.Author.Rules.{rules}
 use Prim.Native.Nat.{ℕ}
 use mathlib.Core.Path.{◌≡◌, refl, sym, ap, ap₂, ◌∙◌}
 use mathlib.Core.Bool.{Bool, ◌&&◌}
@@ -17,7 +18,7 @@ use Rattle.marking.specs.Marks.{marks_of, marks_last, marks_outcome}
 use Rattle.writing.proofs.Writing.{whole}
 use Rattle.marking.proofs.HandInTexts.{mark-rows, marks-same, none_over_lem}
 use Rattle.marking.proofs.marks.Goals as goal
-use Rattle.marking.proofs.marks.Goals.{Start}
+use Rattle.marking.proofs.marks.Goals.{After-at_most, Start}
 
 -- What the call is to come to.
 module _ (c : Start) where
@@ -82,5 +83,5 @@ returns c =
           (wrote.2.bytes ∙ ap (sets (output (goal.at.returns c).Start) 0) same)
           ∙ on.1,
       wrote.1,
-      (whole wrote.2 (put-marks-requires (goal.at.returns c).After-at_most c.put_marks.lifetimes).1).0,
+      (whole wrote.2 (search rules)).0,
     )

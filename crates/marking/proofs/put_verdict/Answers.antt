@@ -18,7 +18,7 @@ pub returns-then-none_zero : goal.returns-then-none_zero
 unfolding filled
 returns-then-none_zero c =
     let a = c.args in
-    retold (widened 230 (c.put_template.ensures.wrote (search rules)) (omega arith)) (sym (ap (λ (b : Bool). cond b (112 ∷ 97 ∷ 115 ∷ 115 ∷ 101 ∷ 115 ∷ 10 ∷ []) (fails_line a.n a.jobs a.bounds)) (sym (passing (goal.at.returns-then-none_zero c).Then-none_zero) ∙ c.if-none_zero.true)))
+    retold (widened 230 (c.put_template.ensures.wrote (search rules)) (omega arith)) (sym (ap (λ (b : Bool). cond b (112 ∷ 97 ∷ 115 ∷ 115 ∷ 101 ∷ 115 ∷ 10 ∷ []) (fails_line a.n a.jobs a.bounds)) (sym (passing (goal.at.returns-then-none_zero c).After-none_zero) ∙ c.if-none_zero.true)))
 
 pub put_overs-after_jobs-requires : goal.put_overs-after_jobs-requires
 put_overs-after_jobs-requires c = let word = c.put_template-after_word.ensures.wrote (search rules) in (search rules, omega (arith, word.next, word.short))
@@ -30,4 +30,4 @@ returns c =
     let fails = c.put_template-after_word.ensures.wrote (search rules) in
     let ids = c.put_overs-after_jobs.ensures in
     retold (then fails (then ids (c.put_template-2.ensures.wrote (omega (arith, fails.next, fails.short, ids.next, ids.short)))))
-    (sym (ap (λ (b : Bool). cond b (112 ∷ 97 ∷ 115 ∷ 115 ∷ 101 ∷ 115 ∷ 10 ∷ []) (fails_line a.n a.jobs a.bounds)) (sym (passing (goal.at.returns c).After-put_template-arg-2-1) ∙ c.if-none_zero.false)))
+    (sym (ap (λ (b : Bool). cond b (112 ∷ 97 ∷ 115 ∷ 115 ∷ 101 ∷ 115 ∷ 10 ∷ []) (fails_line a.n a.jobs a.bounds)) (sym (passing (goal.at.returns c).After-none_zero) ∙ c.if-none_zero.false)))

@@ -2,7 +2,7 @@ use Prim.Native.Nat.{ℕ, suc, ◌+◌, ◌-◌, ◌*◌, ◌≤◌, ◌<◌}
 use mathlib.Core.Path.{◌≡◌, refl, sym, ◌∙◌, ap, ap₂}
 use mathlib.Core.List.{List}
 use native.Mathlib.Omega.{arith}
-use lib.ListN.{length, get_or, length-map}
+use lib.ListN.{length, get_or}
 use mir.Val.{Fits}
 use mir.Syntax.{w16}
 use borrow.Author.Rules.{rules}
@@ -41,7 +41,7 @@ module _ (c : After-run-count) where
   others : c.other_quanta-others.result ≡ other_quanta (length jobs) c.args.quanta (has c.args.layer) c.args.job
   others =
       let a = c.args in
-      let eight : length jobs ≡ most_jobs = simp length-map at c.good.0.1.1.0.1.0.1 in
+      let eight : length jobs ≡ most_jobs = search rules in
       c.other_quanta-others.ensures ∙ ap (λ (n : ℕ). other_quanta n a.quanta (has a.layer) a.job) (sym eight)
 
   counted : count ≡ suc here
@@ -74,10 +74,10 @@ module _ (c : After-work_by-from_above) where
   abbrev share : ℕ
   share = c.layer_share-share.result
 
-  found : let a = ((goal.at.After-work_by-from_above c).Start (goal.at.After-work_by-from_above c).After-run-count).args in
+  found : let a = c.args in
       Found share c.work_by-from_above.result c.finish_of-finish.result (parts_at (entry (goal.at.After-work_by-from_above c).After-run-count) (count (goal.at.After-work_by-from_above c).After-run-count - 1) 1 share c.work_by-from_above.result) (first_parts (jobs (goal.at.After-work_by-from_above c).After-run-count) a.quanta (has a.layer) (has a.above) a.job)
   found =
-      let a = ((goal.at.After-work_by-from_above c).Start (goal.at.After-work_by-from_above c).After-run-count).args in
+      let a = c.args in
       let o = has a.above in
       let finish = c.finish_of-finish.result in
       let w = first_found (jobs (goal.at.After-work_by-from_above c).After-run-count) a.quanta (has a.layer) o a.job (count (goal.at.After-work_by-from_above c).After-run-count - 1) finish (some (goal.at.After-work_by-from_above c).After-run-count) (instance (goal.at.After-work_by-from_above c).After-run-count) (omega (arith, c.finish_of-finish.ensures.0, follows (goal.at.After-work_by-from_above c).After-run-count)) in

@@ -5,14 +5,15 @@ use borrow.Author.Tests.{eq-eqb, ne_eqb}
 use Rattle.sets.specs.Sets.{has, single, join}
 use Rattle.search.specs.Search.{one_bound}
 use Rattle.parts.proofs.second_bound.Goals as goal
+use Rattle.parts.proofs.second_bound.Goals.{Start}
 
 -- The bound of the job alone, and what is to be given by whether there are neighbours.
-abbrev alone : tie.Start → ℕ → ℕ → ℕ
+abbrev alone : Start → ℕ → ℕ → ℕ
 alone s layer above =
     let w = s.args.workload in
     one_bound (record { jobs = w.jobs; utilisations = w.utilisations; unassignable = w.unassignable; sought = 0 }) s.args.quanta (has layer) (has above) s.args.job
 
-abbrev given_by : tie.Start → Bool → ℕ
+abbrev given_by : Start → Bool → ℕ
 given_by s b = cond b s.args.first (alone s (single s.args.job) (join s.args.above s.args.neighbours))
 
 pub returns-then-neighbours-eq0 : goal.returns-then-neighbours-eq0

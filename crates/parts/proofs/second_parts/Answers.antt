@@ -59,11 +59,11 @@ finish_of-finish-requires c = (omega (arith, counted (goal.at.finish_of-finish-r
 
 -- After the sums: what the neighbours and the jobs above add.
 module _ (c : After-work_by-above_alone) where
-  found : let a = ((goal.at.After-work_by-above_alone c).Start (goal.at.After-work_by-above_alone c).After-run-count).args in
+  found : let a = c.args in
       Found c.work_by-beside.result c.work_by-above_alone.result c.finish_of-finish.result (parts_at (entry (goal.at.After-work_by-above_alone c).After-run-count) (count (goal.at.After-work_by-above_alone c).After-run-count - 1) 2 c.work_by-beside.result c.work_by-above_alone.result)
       (second_parts (jobs (goal.at.After-work_by-above_alone c).After-run-count) a.quanta (has a.layer) (has a.above) a.job)
   found =
-      let a = ((goal.at.After-work_by-above_alone c).Start (goal.at.After-work_by-above_alone c).After-run-count).args in
+      let a = c.args in
       let s = has a.layer in
       let o = has a.above in
       let finish = c.finish_of-finish.result in
@@ -72,7 +72,7 @@ module _ (c : After-work_by-above_alone) where
       let w = second-found (jobs (goal.at.After-work_by-above_alone c).After-run-count) a.quanta s o a.job (count (goal.at.After-work_by-above_alone c).After-run-count - 1) finish (some (goal.at.After-work_by-above_alone c).After-run-count) (instance (goal.at.After-work_by-above_alone c).After-run-count) (omega (arith, c.finish_of-finish.ensures.0, follows (goal.at.After-work_by-above_alone c).After-run-count)) in
       let x : c.work_by-beside.result ≡ interference (jobs (goal.at.After-work_by-above_alone c).After-run-count) (neighbours s a.job) finish =
       c.work_by-beside.ensures ∙ work-within (jobs (goal.at.After-work_by-above_alone c).After-run-count) (has beside.result) finish near
-      ∙ ap (λ (t : Set). interference (jobs (goal.at.After-work_by-above_alone c).After-run-count) t finish) (ap has beside.ensures ∙ neighbours-set a.layer a.above a.job ((goal.at.After-work_by-above_alone c).Start (goal.at.After-work_by-above_alone c).After-run-count).pre.1) in
+      ∙ ap (λ (t : Set). interference (jobs (goal.at.After-work_by-above_alone c).After-run-count) t finish) (ap has beside.ensures ∙ neighbours-set a.layer a.above a.job c.requires.1) in
       let y : c.work_by-above_alone.result ≡ interference (jobs (goal.at.After-work_by-above_alone c).After-run-count) o finish = c.work_by-above_alone.ensures ∙ work-within (jobs (goal.at.After-work_by-above_alone c).After-run-count) o finish near in
       record {
         share = omega (arith, x, w.share);

@@ -1,6 +1,6 @@
 use Prim.Native.Nat.{ℕ, suc, ◌+◌, ◌-◌, ◌*◌, ◌^◌, ◌≤◌, ◌<◌, max}
 use mathlib.Core.Path.{◌≡◌, sym, ◌∙◌, ap, ap₂}
-use mathlib.Core.Logic.{◌≢◌, ⊎_elim}
+use mathlib.Core.Logic.{◌≢◌}
 use native.Mathlib.Nat.{mul-le-mul}
 use native.Mathlib.Omega.{arith}
 use mir.Val.{Fits}
@@ -14,7 +14,7 @@ use Rattle.runs.proofs.FoundRuns.{turn-none, turn-hit, turn-closed, turn-open, t
 use borrow.Author.Rules.{rules}
 use Rattle.runs.proofs.largest_response.Invariants.{found}
 use Rattle.runs.proofs.largest_response.Goals as goal
-use Rattle.runs.proofs.largest_response.Goals.{After-is_sought, After-time_for-finish, In-loop-instance, Joined-largest-response}
+use Rattle.runs.proofs.largest_response.Goals.{After-is_sought, After-time_for-finish, In-loop-instance, Joined-largest-response, then-largest-response, else-largest-response}
 
 -- The release of an instance and the deadline fit.
 release-fits : (instance period : ℕ) → instance < most_instances → period < 2 ^ 16 → instance * period ≤ 63 * 65535
@@ -77,11 +77,11 @@ pub returns-then-finish-eq0 : goal.returns-then-finish-eq0
 unfolding sought
 returns-then-finish-eq0 c =
     let l = c.loop-instance in
-    sym (l.inv.3 ∙ turn-none (finishes (goal.at.returns-then-finish-eq0 c).After-time_for-finish) (job (goal.at.returns-then-finish-eq0 c).After-time_for-finish).delay (job (goal.at.returns-then-finish-eq0 c).After-time_for-finish).period (sought (goal.at.returns-then-finish-eq0 c).After-time_for-finish) most_instances l.instance l.before l.largest (omega (arith, c.loop-instance-test.true)) (sym (finish (goal.at.returns-then-finish-eq0 c).After-time_for-finish) ∙ c.if-finish-eq0.true))
+    sym (l.invariant.3 ∙ turn-none (finishes (goal.at.returns-then-finish-eq0 c).After-time_for-finish) (job (goal.at.returns-then-finish-eq0 c).After-time_for-finish).delay (job (goal.at.returns-then-finish-eq0 c).After-time_for-finish).period (sought (goal.at.returns-then-finish-eq0 c).After-time_for-finish) most_instances l.instance l.before l.largest (omega (arith, c.loop-instance-test.true)) (sym (finish (goal.at.returns-then-finish-eq0 c).After-time_for-finish) ∙ c.if-finish-eq0.true))
 
 pub overflow_add-response : goal.overflow_add-response
 overflow_add-response c =
-    omega (arith, release (goal.at.overflow_add-response c).In-loop-instance, deadline-fits (goal.at.overflow_add-response c).In-loop-instance, in-time c.if-finish-eq0.false)
+    omega (arith, release (goal.at.overflow_add-response c).In-loop-instance, deadline-fits (goal.at.overflow_add-response c).In-loop-instance, in-time (goal.at.overflow_add-response c).After-time_for-finish c.if-finish-eq0.false)
 
 pub overflow_sub-response : goal.overflow_sub-response
 overflow_sub-response c =
@@ -103,7 +103,7 @@ pub returns-then-is_sought : goal.returns-then-is_sought
 unfolding sought
 returns-then-is_sought c =
     let l = c.loop-instance in
-    sym (l.inv.3
+    sym (l.invariant.3
     ∙ turn-hit (finishes (goal.at.returns-then-is_sought c).After-time_for-finish) (job (goal.at.returns-then-is_sought c).After-time_for-finish).delay (job (goal.at.returns-then-is_sought c).After-time_for-finish).period (sought (goal.at.returns-then-is_sought c).After-time_for-finish) most_instances l.instance l.before l.largest (omega (arith, c.loop-instance-test.true)) (found_some (goal.at.returns-then-is_sought c).After-is_sought) (sym (hits (goal.at.returns-then-is_sought c).After-is_sought) ∙ c.if-is_sought.true)
     ∙ sym (one_more (goal.at.returns-then-is_sought c).After-time_for-finish))
 
@@ -112,14 +112,11 @@ grown : (c : Joined-largest-response)
     → (c.if-largest-response.largest ≡ max c.loop-instance.largest (c.time_for-finish.result + (job (goal.at.Joined-largest-response c).After-time_for-finish).delay - instance (goal.at.Joined-largest-response c).After-time_for-finish * (job (goal.at.Joined-largest-response c).After-time_for-finish).period)) × (c.if-largest-response.largest ≤ (job (goal.at.Joined-largest-response c).After-time_for-finish).deadline)
 grown c =
     let l = c.loop-instance in
-    ⊎_elim
-    (λ w. (omega (arith, w.0.taken, w.1), omega (arith, w.1, in-time c.if-finish-eq0.false)))
-    (λ w. (omega (arith, w.0.left, w.1), omega (arith, w.1, l.inv.1)))
-    c.if-largest-response.branch
+    elim c.if-largest-response.branch [ then-largest-response w ↦ (omega (arith, w.if-largest-response.true, w.largest-is), omega (arith, w.largest-is, in-time (goal.at.Joined-largest-response c).After-time_for-finish c.if-finish-eq0.false)) | else-largest-response w ↦ (omega (arith, w.if-largest-response.false, w.largest-is), omega (arith, w.largest-is, l.invariant.1)) ]
 
 pub overflow_add-finish : goal.overflow_add-finish
 overflow_add-finish c =
-    omega (arith, release (goal.at.overflow_add-finish c).In-loop-instance, deadline-fits (goal.at.overflow_add-finish c).In-loop-instance, in-time c.if-finish-eq0.false)
+    omega (arith, release (goal.at.overflow_add-finish c).In-loop-instance, deadline-fits (goal.at.overflow_add-finish c).In-loop-instance, in-time (goal.at.overflow_add-finish c).After-time_for-finish c.if-finish-eq0.false)
 
 pub overflow_add-release-in-loop-instance : goal.overflow_add-release-in-loop-instance
 overflow_add-release-in-loop-instance c =
@@ -135,7 +132,7 @@ unfolding sought
 returns-then-finish-delay c =
     let l = c.loop-instance in
     let J = (job (goal.at.returns-then-finish-delay c).After-time_for-finish).delay in
-    sym (l.inv.3
+    sym (l.invariant.3
     ∙ turn-closed (finishes (goal.at.returns-then-finish-delay c).After-time_for-finish) J (job (goal.at.returns-then-finish-delay c).After-time_for-finish).period (sought (goal.at.returns-then-finish-delay c).After-time_for-finish) most_instances l.instance l.before l.largest (omega (arith, c.loop-instance-test.true))
     (found_some (goal.at.returns-then-finish-delay c).After-is_sought) (sym (hits (goal.at.returns-then-finish-delay c).After-is_sought) ∙ c.if-is_sought.false) (omega (arith, finish (goal.at.returns-then-finish-delay c).After-time_for-finish, c.if-finish-delay.true))
     ∙ ap (λ (x : ℕ). max l.largest (x + J - l.instance * (job (goal.at.returns-then-finish-delay c).After-time_for-finish).period)) (sym (finish (goal.at.returns-then-finish-delay c).After-time_for-finish)) ∙ sym (grown (goal.at.returns-then-finish-delay c).Joined-largest-response).0)
@@ -152,7 +149,7 @@ loop-instance-preserved c =
       omega (arith, c.loop-instance-test.true),
       (grown (goal.at.loop-instance-preserved c).Joined-largest-response).1,
       omega (arith, c.if-finish-delay.false),
-      l.inv.3
+      l.invariant.3
           ∙ turn-open f J T x most_instances l.instance l.before l.largest (omega (arith, c.loop-instance-test.true)) (found_some (goal.at.loop-instance-preserved c).After-is_sought) (sym (hits (goal.at.loop-instance-preserved c).After-is_sought) ∙ c.if-is_sought.false) open-ended
           ∙ ap (λ (n : ℕ). run_by f J T x (most_instances - n) n (f l.instance l.before) (max l.largest (f l.instance l.before + J - l.instance * T))) (sym (one_more (goal.at.loop-instance-preserved c).After-time_for-finish))
           ∙ ap₂ (run_by f J T x (most_instances - (l.instance + 1)) (l.instance + 1)) (sym (finish (goal.at.loop-instance-preserved c).After-time_for-finish))

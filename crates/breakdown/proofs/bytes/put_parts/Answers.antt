@@ -11,4 +11,4 @@ returns c =
     let put = c.put_amounts in
     let head = c.put_head in
     let a = c.args in
-    put-after (a.parts.instance ∷ a.parts.which ∷ []) (flat long_bytes (amounts a.parts)) a.output.now 2 20 refl head.new.output head.ensures put.new.output.0 put.ensures
+    put-after (a.parts.instance ∷ a.parts.which ∷ []) (flat long_bytes (amounts a.parts)) a.output.now 2 20 refl head.new.output head.ensures put.new.output put.ensures

@@ -38,15 +38,15 @@ returns-then-word-hyphen c =
     simp (ne_eqb _ _ (λ e. c.if-hyphen-eq0.false (sym (found (goal.at.returns-then-word-hyphen c).After-find-hyphen) ∙ e)), le-leb _ _ short)
 
 pub slice_bounds-read_number-end : goal.slice_bounds-read_number-end
-slice_bounds-read_number-end c = sym (length-take-le _ _ (within (goal.at.slice_bounds-read_number-end c).After-shared_slice_known-1))
+slice_bounds-read_number-end c = sym (length-take-le _ _ (within (goal.at.slice_bounds-read_number-end c).After-find-hyphen))
 
 pub returns : goal.returns
 unfolding span_of
 returns c =
-    let long : length (before (is_mark Hyphen) (word (goal.at.returns c).After-shared_slice_known-1)) + 1 < length (word (goal.at.returns c).After-shared_slice_known-1) = omega (arith, found (goal.at.returns c).After-shared_slice_known-1, c.if-word-hyphen.false) in
-    let rest = drop (c.find-hyphen.result + 1) (word (goal.at.returns c).After-shared_slice_known-1) in
-    let all : take (length (word (goal.at.returns c).After-shared_slice_known-1) - (c.find-hyphen.result + 1)) rest ≡ rest = take_all (length (word (goal.at.returns c).After-shared_slice_known-1) - (c.find-hyphen.result + 1)) rest (omega (arith, length-drop (c.find-hyphen.result + 1) (word (goal.at.returns c).After-shared_slice_known-1))) in
+    let long : length (before (is_mark Hyphen) (word (goal.at.returns c).After-find-hyphen)) + 1 < length (word (goal.at.returns c).After-find-hyphen) = omega (arith, found (goal.at.returns c).After-find-hyphen, c.if-word-hyphen.false) in
+    let rest = drop (c.find-hyphen.result + 1) (word (goal.at.returns c).After-find-hyphen) in
+    let all : take (length (word (goal.at.returns c).After-find-hyphen) - (c.find-hyphen.result + 1)) rest ≡ rest = take_all (length (word (goal.at.returns c).After-find-hyphen) - (c.find-hyphen.result + 1)) rest (omega (arith, length-drop (c.find-hyphen.result + 1) (word (goal.at.returns c).After-find-hyphen))) in
     c.span_of.ensures
     ∙ ap₂ pair_of c.read_number-low.ensures (c.read_number-high.ensures ∙ ap (number_of 2 255 255) all)
-    ∙ ap (λ (k : ℕ). pair_of (number_of 1 255 255 (take k (word (goal.at.returns c).After-shared_slice_known-1))) (number_of 2 255 255 (drop (k + 1) (word (goal.at.returns c).After-shared_slice_known-1)))) (sym (found (goal.at.returns c).After-shared_slice_known-1))
-    ∙ simp (ne_eqb _ _ (λ e. c.if-hyphen-eq0.false (sym (found (goal.at.returns c).After-shared_slice_known-1) ∙ e)), lt-leb _ _ long)
+    ∙ ap (λ (k : ℕ). pair_of (number_of 1 255 255 (take k (word (goal.at.returns c).After-find-hyphen))) (number_of 2 255 255 (drop (k + 1) (word (goal.at.returns c).After-find-hyphen)))) (sym (found (goal.at.returns c).After-find-hyphen))
+    ∙ simp (ne_eqb _ _ (λ e. c.if-hyphen-eq0.false (sym (found (goal.at.returns c).After-find-hyphen) ∙ e)), lt-leb _ _ long)

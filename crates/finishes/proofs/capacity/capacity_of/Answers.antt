@@ -1,6 +1,5 @@
-use Prim.Native.Nat.{ℕ, ◌*◌, ◌-◌, ◌^◌, ◌≤◌, ◌<◌, min}
+use Prim.Native.Nat.{ℕ, ◌*◌, ◌^◌, ◌≤◌, ◌<◌, min}
 use mathlib.Core.Path.{◌≡◌, sym, ◌∙◌, ap}
-use mathlib.Core.Logic.{⊎_elim}
 use native.Mathlib.Nat.{mul-le-mul}
 use native.Mathlib.Omega.{arith}
 use lib.ListN.{length, get_or}
@@ -14,7 +13,7 @@ use Rattle.records.specs.Jobs.{job_at}
 use Rattle.finishes.specs.Finishes.{load, spare_of, delays_of, most_carried}
 use borrow.Author.Rules.{rules}
 use Rattle.finishes.proofs.capacity.capacity_of.Goals as goal
-use Rattle.finishes.proofs.capacity.capacity_of.Goals.{After-job-1, After-loop-i, After-struct_known-1}
+use Rattle.finishes.proofs.capacity.capacity_of.Goals.{After-job-1, After-loop-i, After-struct_known-1, then-contains, else-contains}
 
 pub loop-i-init : goal.loop-i-init
 loop-i-init c = (search rules, sym (over_none _ _), sym (over_none _ _), omega arith, omega arith)
@@ -53,13 +52,11 @@ loop-i-preserved c =
     let f : ℕ → ℕ = λ k. get_or a.utilisations k 0 in
     let g : ℕ → ℕ = λ k. (job_at a.jobs k).delay * get_or a.utilisations k 0 in
     let s : Fits w32 (get_or a.utilisations l.i 0) = search rules in
-    ⊎_elim
-    (λ w.
-    let fits = carry-fits (job_at a.jobs l.i).delay (get_or a.utilisations l.i 0) (search rules) (omega arith) in
-    (omega arith, w.3 ∙ omega (arith, over-in l.i (has a.set) f c.contains.ensures w.0.taken, l.invariant.1), w.4 ∙ omega (arith, over-in l.i (has a.set) g c.contains.ensures w.0.taken, l.invariant.2), omega (arith, w.3, l.invariant.3), omega (arith, w.4, l.invariant.4, fits)))
-    (λ w.
-    (omega arith, w.1 ∙ omega (arith, over-out l.i (has a.set) f c.contains.ensures w.0.left, l.invariant.1), w.2 ∙ omega (arith, over-out l.i (has a.set) g c.contains.ensures w.0.left, l.invariant.2), omega (arith, w.1, l.invariant.3), omega (arith, w.2, l.invariant.4)))
-    c.if-contains.branch
+    elim c.if-contains.branch [
+      | then-contains w ↦ (let fits = carry-fits (job_at a.jobs l.i).delay (get_or a.utilisations l.i 0) (search rules) (omega arith) in
+          (omega arith, w.taken-is ∙ omega (arith, over-in l.i (has a.set) f c.contains.ensures w.if-contains.true, l.invariant.1), w.carry-is ∙ omega (arith, over-in l.i (has a.set) g c.contains.ensures w.if-contains.true, l.invariant.2), omega (arith, w.taken-is, l.invariant.3), omega (arith, w.carry-is, l.invariant.4, fits)))
+      | else-contains w ↦ (omega arith, w.taken-is ∙ omega (arith, over-out l.i (has a.set) f c.contains.ensures w.if-contains.false, l.invariant.1), w.carry-is ∙ omega (arith, over-out l.i (has a.set) g c.contains.ensures w.if-contains.false, l.invariant.2), omega (arith, w.taken-is, l.invariant.3), omega (arith, w.carry-is, l.invariant.4))
+    ]
 
 -- After the loop: both sums.
 module _ (c : After-loop-i) where

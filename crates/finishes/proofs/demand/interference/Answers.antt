@@ -1,6 +1,5 @@
-use Prim.Native.Nat.{ℕ, ◌-◌}
+use Prim.Native.Nat.{ℕ}
 use mathlib.Core.Path.{◌≡◌, sym, ◌∙◌, ap}
-use mathlib.Core.Logic.{⊎_elim}
 use native.Mathlib.Omega.{arith}
 use lib.ListN.{length}
 use Rattle.sets.specs.Places.{sum_over}
@@ -11,6 +10,7 @@ use Rattle.records.specs.Jobs.{job_at}
 use Rattle.response.specs.Demand.{work, interference}
 use borrow.Author.Rules.{rules}
 use Rattle.finishes.proofs.demand.interference.Goals as goal
+use Rattle.finishes.proofs.demand.interference.Goals.{then-contains, else-contains}
 
 pub loop-i-init : goal.loop-i-init
 loop-i-init c = (search rules, sym (over_none _ _), omega arith)
@@ -20,10 +20,7 @@ loop-i-preserved c =
     let a = c.args in
     let l = c.loop-i in
     let f : ℕ → ℕ = λ k. work (job_at a.jobs k) a.t in
-    ⊎_elim
-    (λ w. (omega arith, w.3 ∙ omega (arith, over-in l.i (has a.above) f c.contains.ensures w.0.taken, w.2.ensures.0, l.invariant.1), omega arith))
-    (λ w. (omega arith, w.1 ∙ omega (arith, over-out l.i (has a.above) f c.contains.ensures w.0.left, l.invariant.1), omega arith))
-    c.if-contains.branch
+    elim c.if-contains.branch [ then-contains w ↦ (omega arith, w.sum-is ∙ omega (arith, over-in l.i (has a.above) f c.contains.ensures w.if-contains.true, w.work-sum.ensures.0, l.invariant.1), omega arith) | else-contains w ↦ (omega arith, w.sum-is ∙ omega (arith, over-out l.i (has a.above) f c.contains.ensures w.if-contains.false, l.invariant.1), omega arith) ]
 
 pub returns : goal.returns
 unfolding interference

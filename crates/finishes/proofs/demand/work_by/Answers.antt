@@ -1,6 +1,5 @@
-use Prim.Native.Nat.{ℕ, ◌-◌}
+use Prim.Native.Nat.{ℕ}
 use mathlib.Core.Path.{◌≡◌, sym, ◌∙◌, ap}
-use mathlib.Core.Logic.{⊎_elim}
 use native.Mathlib.Omega.{arith}
 use lib.ListN.{length}
 use Rattle.sets.specs.Places.{sum_over}
@@ -12,6 +11,7 @@ use Rattle.response.specs.Demand.{work, interference}
 use Rattle.finishes.proofs.Climbing.{work-past, work-within}
 use borrow.Author.Rules.{rules}
 use Rattle.finishes.proofs.demand.work_by.Goals as goal
+use Rattle.finishes.proofs.demand.work_by.Goals.{then-contains, else-contains}
 
 pub returns-then-t-gt-LONGEST_TIME : goal.returns-then-t-gt-LONGEST_TIME
 returns-then-t-gt-LONGEST_TIME c = let a = c.args in sym (work-past a.jobs (has a.set) a.t c.if-t-gt-LONGEST_TIME.true)
@@ -27,10 +27,7 @@ loop-i-preserved c =
     let a = c.args in
     let l = c.loop-i in
     let f : ℕ → ℕ = λ k. work (job_at a.jobs k) a.t in
-    ⊎_elim
-    (λ w. (omega arith, w.3 ∙ omega (arith, over-in l.i (has a.set) f c.contains.ensures w.0.taken, w.2.ensures.0, l.invariant.1), omega arith))
-    (λ w. (omega arith, w.1 ∙ omega (arith, over-out l.i (has a.set) f c.contains.ensures w.0.left, l.invariant.1), omega arith))
-    c.if-contains.branch
+    elim c.if-contains.branch [ then-contains w ↦ (omega arith, w.sum-is ∙ omega (arith, over-in l.i (has a.set) f c.contains.ensures w.if-contains.true, w.work-sum.ensures.0, l.invariant.1), omega arith) | else-contains w ↦ (omega arith, w.sum-is ∙ omega (arith, over-out l.i (has a.set) f c.contains.ensures w.if-contains.false, l.invariant.1), omega arith) ]
 
 pub returns : goal.returns
 unfolding interference

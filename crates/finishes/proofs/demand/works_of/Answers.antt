@@ -1,6 +1,5 @@
-use Prim.Native.Nat.{ℕ, ◌+◌, ◌*◌, ◌-◌, ◌^◌, ◌≤◌}
+use Prim.Native.Nat.{ℕ, ◌+◌, ◌*◌, ◌^◌, ◌≤◌}
 use mathlib.Core.Path.{◌≡◌, sym, ◌∙◌, ap}
-use mathlib.Core.Logic.{⊎_elim}
 use native.Mathlib.Omega.{arith}
 use lib.ListN.{length}
 use Rattle.sets.specs.Places.{sum_over}
@@ -11,6 +10,7 @@ use Rattle.records.specs.Jobs.{job_at}
 use Rattle.response.specs.Demand.{work, interference}
 use borrow.Author.Rules.{rules}
 use Rattle.finishes.proofs.demand.works_of.Goals as goal
+use Rattle.finishes.proofs.demand.works_of.Goals.{then-contains, else-contains, then-contains-2, else-contains-2}
 
 pub loop-i-init : goal.loop-i-init
 loop-i-init c = (search rules, sym (over_none _ _), sym (over_none _ _), omega arith, omega arith)
@@ -20,16 +20,10 @@ loop-i-preserved c =
     let l = c.loop-i in
     let a = c.args in
     let f : ℕ → ℕ = λ k. work (job_at a.jobs k) a.t in
-    let long : (c.if-contains.of-long ≡ sum_over (l.i + 1) (has a.long) f) × (c.if-contains.of-long ≤ (l.i + 1) * 2 ^ 39) =
-    ⊎_elim
-    (λ w. (w.3 ∙ omega (arith, over-in l.i (has a.long) f c.contains.ensures w.0.taken, w.2.ensures.0, l.invariant.1), omega (arith, w.3, w.2.ensures.1, l.invariant.3)))
-    (λ w. (w.1 ∙ omega (arith, over-out l.i (has a.long) f c.contains.ensures w.0.left, l.invariant.1), omega (arith, w.1, l.invariant.3)))
-    c.if-contains.branch in
-    let short : (c.if-contains-2.of-short ≡ sum_over (l.i + 1) (has a.short) f) × (c.if-contains-2.of-short ≤ (l.i + 1) * 2 ^ 39) =
-    ⊎_elim
-    (λ w. (w.3 ∙ omega (arith, over-in l.i (has a.short) f c.contains-in-loop-i.ensures w.0.taken, w.2.ensures.0, l.invariant.2), omega (arith, w.3, w.2.ensures.1, l.invariant.4)))
-    (λ w. (w.1 ∙ omega (arith, over-out l.i (has a.short) f c.contains-in-loop-i.ensures w.0.left, l.invariant.2), omega (arith, w.1, l.invariant.4)))
-    c.if-contains-2.branch in
+    let long : (c.if-contains.of_long ≡ sum_over (l.i + 1) (has a.long) f) × (c.if-contains.of_long ≤ (l.i + 1) * 2 ^ 39) =
+    elim c.if-contains.branch [ then-contains w ↦ (w.of_long-is ∙ omega (arith, over-in l.i (has a.long) f c.contains.ensures w.if-contains.true, w.work-of_long.ensures.0, l.invariant.1), omega (arith, w.of_long-is, w.work-of_long.ensures.1, l.invariant.3)) | else-contains w ↦ (w.of_long-is ∙ omega (arith, over-out l.i (has a.long) f c.contains.ensures w.if-contains.false, l.invariant.1), omega (arith, w.of_long-is, l.invariant.3)) ] in
+    let short : (c.if-contains-2.of_short ≡ sum_over (l.i + 1) (has a.short) f) × (c.if-contains-2.of_short ≤ (l.i + 1) * 2 ^ 39) =
+    elim c.if-contains-2.branch [ then-contains-2 w ↦ (w.of_short-is ∙ omega (arith, over-in l.i (has a.short) f c.contains-in-loop-i.ensures w.if-contains-2.true, w.work-of_short.ensures.0, l.invariant.2), omega (arith, w.of_short-is, w.work-of_short.ensures.1, l.invariant.4)) | else-contains-2 w ↦ (w.of_short-is ∙ omega (arith, over-out l.i (has a.short) f c.contains-in-loop-i.ensures w.if-contains-2.false, l.invariant.2), omega (arith, w.of_short-is, l.invariant.4)) ] in
     (omega arith, long.0, short.0, long.1, short.1)
 
 pub returns : goal.returns

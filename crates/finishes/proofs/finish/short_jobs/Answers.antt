@@ -1,6 +1,5 @@
-use Prim.Native.Nat.{ℕ, ◌-◌}
+use Prim.Native.Nat.{ℕ}
 use mathlib.Core.Path.{◌≡◌, refl, subst, ◌∙◌}
-use mathlib.Core.Logic.{⊎_elim}
 use native.Mathlib.Omega.{arith}
 use lib.Dec.{leb}
 use borrow.Author.Tests.{le-leb, lt-leb}
@@ -10,6 +9,7 @@ use Rattle.sets.proofs.Members.{collect-none, collect-in, collect-out}
 use Rattle.records.specs.Limits.{most_jobs}
 use Rattle.records.specs.Jobs.{job_at}
 use Rattle.finishes.proofs.finish.short_jobs.Goals as goal
+use Rattle.finishes.proofs.finish.short_jobs.Goals.{then-job-longest, else-job-longest}
 
 pub loop-i-init : goal.loop-i-init
 loop-i-init c = (search rules, collect-none _)
@@ -20,10 +20,7 @@ loop-i-preserved c =
     let a = c.args in
     let set : Set = λ i. leb (job_at a.jobs i).period a.longest in (
       search rules,
-      ⊎_elim
-          (λ w. collect-in l.i set l.set l.invariant.1 refl (omega arith) (le-leb (job_at a.jobs l.i).period a.longest w.0.taken) c.if-job-longest.set (w.2 ∙ w.1.ensures))
-          (λ w. collect-out l.i set l.set l.invariant.1 refl (lt-leb (job_at a.jobs l.i).period a.longest (omega (arith, w.0.left))) c.if-job-longest.set w.1)
-          c.if-job-longest.branch,
+      elim c.if-job-longest.branch [ then-job-longest w ↦ collect-in l.i set l.set l.invariant.1 refl (omega arith) (le-leb (job_at a.jobs l.i).period a.longest w.if-job-longest.true) c.if-job-longest.set (w.set-is ∙ w.insert-more.ensures) | else-job-longest w ↦ collect-out l.i set l.set l.invariant.1 refl (lt-leb (job_at a.jobs l.i).period a.longest (omega (arith, w.if-job-longest.false))) c.if-job-longest.set w.set-is ],
     )
 
 pub returns : goal.returns

@@ -1,6 +1,5 @@
 use Prim.Native.Nat.{ℕ, suc, ◌+◌, ◌-◌, ◌≤◌, ◌<◌, max}
 use mathlib.Core.Path.{◌≡◌, sym, ◌∙◌, ap}
-use mathlib.Core.Logic.{⊎_elim}
 use native.Mathlib.Omega.{arith}
 use Rattle.sets.specs.Sets.{has}
 use Rattle.response.specs.Demand.{interference}
@@ -8,7 +7,7 @@ use Rattle.finishes.specs.Finishes.{steps, plain_steps, far_time, time_from}
 use Rattle.finishes.proofs.Climbing.{loop-past, loop-found, loop-falls, steps-none, steps-past, steps-end, steps_on, time-idle, time-full, time-start}
 use Rattle.finishes.proofs.finish.time_within.Invariants.{table}
 use Rattle.finishes.proofs.finish.time_within.Goals as goal
-use Rattle.finishes.proofs.finish.time_within.Goals.{After-interference}
+use Rattle.finishes.proofs.finish.time_within.Goals.{After-interference, then-own-ne0+else-spare-eq0, else-own-ne0}
 
 pub returns-then-spare-eq0 : goal.returns-then-spare-eq0
 returns-then-spare-eq0 c =
@@ -23,10 +22,7 @@ loop-step-init c =
     let w = table a.jobs a.utilisations in
     let start : ℕ → ℕ = time_from w (has a.above) a.own a.limit in (
       omega arith,
-      ⊎_elim
-          (λ v. time-start w (has a.above) a.spare a.carry a.own a.limit a.before v.0.taken v.1.left ∙ sym (ap start (l.ensures ∙ ap (λ (x : ℕ). max x a.before) v.2)))
-          (λ v. time-idle w (has a.above) a.spare a.carry a.own a.limit a.before v.0.left ∙ sym (ap start (l.ensures ∙ ap (λ (x : ℕ). max x a.before) v.1)))
-          c.if-own-ne0.branch,
+      elim c.if-own-ne0.branch [ then-own-ne0+else-spare-eq0 v ↦ time-start w (has a.above) a.spare a.carry a.own a.limit a.before v.if-own-ne0.true v.if-spare-eq0.false ∙ sym (ap start (l.ensures ∙ ap (λ (x : ℕ). max x a.before) v.t-is)) | else-own-ne0 v ↦ time-idle w (has a.above) a.spare a.carry a.own a.limit a.before v.if-own-ne0.false ∙ sym (ap start (l.ensures ∙ ap (λ (x : ℕ). max x a.before) v.t-is)) ],
       omega (arith, l.ensures),
     )
 

@@ -8,9 +8,10 @@ use Rattle.records.proofs.Reading.{jobs-listed}
 use Rattle.records.proofs.Asking.{call-knows, more-before, more-judged}
 use Rattle.kernel.specs.Priorities.{priority_tests}
 use Rattle.kernel.proofs.call.read_call.Goals as goal
+use Rattle.kernel.proofs.call.read_call.Goals.{Start}
 
 -- What is asked of the priorities, for the jobs of the block.
-abbrev more : tie.Start → Tests
+abbrev more : Start → Tests
 more s = priority_tests (length (job_list s.args.jobs.now)) s.args.lowest s.args.highest
 
 pub returns-in_default : goal.returns-in_default

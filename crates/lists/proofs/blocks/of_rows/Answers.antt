@@ -19,10 +19,10 @@ few c = let size : length c.args.read.rows ≡ most_jobs = search (rules, unmapp
 
 pub returns : goal.returns
 returns c =
-    let b = rows-block c.args.form (take c.args.n c.args.read.rows) _ (few (goal.at.returns c).Start) (search rules) c.put_rows-wrote.result c.put_rows-wrote.new.rows.1.1.0 c.put_rows-wrote.ensures in
+    let b = rows-block c.args.form (take c.args.n c.args.read.rows) _ (few (goal.at.returns c).Start) (search rules) c.put_rows-wrote.result c.put_rows-wrote.new.output c.put_rows-wrote.ensures in
     let small : size_of c.put_rows-wrote.result ≤ 64 = b.1 in
-    let size = c.type_size.ensures in (
+    let size = c.size_of.ensures in (
       ap (λ (l : List ℕ). given (record { block = l; at = take c.args.n c.args.read.at; range = cond c.args.read.ranged (some (c.args.read.low, c.args.read.high)) none }))
-          (ap (λ (k : ℕ). take k c.put_rows-wrote.new.rows.1.1.0) size ∙ b.0),
+          (ap (λ (k : ℕ). take k c.put_rows-wrote.new.output) size ∙ b.0),
       omega (arith, size, small),
     )

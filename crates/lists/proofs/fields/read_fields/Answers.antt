@@ -4,7 +4,6 @@ use mathlib.Core.List.{List, [], ◌∷◌, ◌++◌}
 use native.Mathlib.Omega.{arith}
 use lib.ListN.{length, get_or, take, drop, set, length-append}
 use borrow.Author.Rules.{rules}
-use Rattle.records.specs.Records.{table}
 use Rattle.records.proofs.FixedWidth.{table_at, fill-next}
 use Rattle.lists.specs.declared.words.Mark.TheVariants.{Blank, Word}
 use Rattle.lists.specs.declared.fields.Form.{Form}
@@ -68,14 +67,14 @@ read_word-word-requires c = in_table (goal.at.read_word-word-requires c).After-f
 -- The word is that of its field.
 module _ (c : After-read_word-word) where
   abbrev i : ℕ
-  i = ((goal.at.After-read_word-word c).At-loop-i (goal.at.After-read_word-word c).After-find-end).loop.i
+  i = c.loop-i.i
 
   word_read : c.read_word-word.result
       ≡ word_of (form (goal.at.After-read_word-word c).After-find-end) i (get_or (limits_of (form (goal.at.After-read_word-word c).After-find-end)) i 0) (take (c.find-end.result - c.find-start.result) (drop c.find-start.result (content (goal.at.After-read_word-word c).After-find-end)))
   word_read =
       c.read_word-word.ensures
       ∙ ap (λ (x : ℕ). word_of (form (goal.at.After-read_word-word c).After-find-end) i x (take (c.find-end.result - c.find-start.result) (drop c.find-start.result (content (goal.at.After-read_word-word c).After-find-end))))
-      (ap (λ (t : List ℕ). get_or t i 0) ((goal.at.After-read_word-word c).At-loop-i (goal.at.After-read_word-word c).After-find-end).before.Limits-of.ensures ∙ table_at 0 (limits_of (form (goal.at.After-read_word-word c).After-find-end)) (5 - length (limits_of (form (goal.at.After-read_word-word c).After-find-end))) i)
+      (ap (λ (t : List ℕ). get_or t i 0) c.limits_of-limits.ensures ∙ table_at 0 (limits_of (form (goal.at.After-read_word-word c).After-find-end)) (5 - length (limits_of (form (goal.at.After-read_word-word c).After-find-end))) i)
 
 pub returns-in_default : goal.returns-in_default
 returns-in_default c =

@@ -1,6 +1,5 @@
-use Prim.Native.Nat.{ℕ, ◌-◌, min}
+use Prim.Native.Nat.{ℕ, min}
 use mathlib.Core.Path.{◌≡◌, subst, ◌∙◌}
-use mathlib.Core.Logic.{⊎_elim}
 use native.Mathlib.Omega.{arith}
 use Rattle.sets.specs.Sets.{Set, Collects}
 use Rattle.sets.proofs.Members.{collect-none, collect-in, collect-out}
@@ -8,6 +7,7 @@ use Rattle.records.specs.Limits.{most_jobs}
 use Rattle.marker.specs.Relations.{stands}
 use borrow.Author.Rules.{rules}
 use Rattle.marker.proofs.levels.level_set.Goals as goal
+use Rattle.marker.proofs.levels.level_set.Goals.{then-stands, else-stands}
 
 pub loop-i-init : goal.loop-i-init
 loop-i-init c = (search rules, collect-none _)
@@ -19,10 +19,7 @@ loop-i-preserved c =
     let test = c.stands.ensures in
     let set : Set = stands a.relation a.settings a.level in (
       search rules,
-      ⊎_elim
-          (λ w. collect-in l.i set l.set l.invariant.1 test (omega arith) w.0.taken c.if-stands.set (w.2 ∙ w.1.ensures))
-          (λ w. collect-out l.i set l.set l.invariant.1 test w.0.left c.if-stands.set w.1)
-          c.if-stands.branch,
+      elim c.if-stands.branch [ then-stands w ↦ collect-in l.i set l.set l.invariant.1 test (omega arith) w.if-stands.true c.if-stands.set (w.set-is ∙ w.insert-more.ensures) | else-stands w ↦ collect-out l.i set l.set l.invariant.1 test w.if-stands.false c.if-stands.set w.set-is ],
     )
 
 pub returns : goal.returns

@@ -38,16 +38,16 @@ fill_bounds-bounds-requires c = (omega (arith, c.at_most-count.ensures), search 
 
 -- The bounds are written; what they say decides.
 done : (c : After-none_zero) → let a = c.args in
-    (given c.none_zero.result, c.fill_bounds-bounds.new.settings.1.1.0) ≡ mark_jobs (take a.n a.jobs) (take a.n a.settings) a.output.now
+    (given c.none_zero.result, c.fill_bounds-bounds.new.output) ≡ mark_jobs (take a.n a.jobs) (take a.n a.settings) a.output.now
 unfolding mark_jobs
 done c =
     let a = c.args in
-    ap (λ (b : Bool). (given b, c.fill_bounds-bounds.new.settings.1.1.0))
+    ap (λ (b : Bool). (given b, c.fill_bounds-bounds.new.output))
     (c.none_zero.ensures ∙ ap (every (λ i. ltb 0 (get_or c.fill_bounds-bounds.result i 0))) (omega (arith, c.at_most-count.ensures)) ∙ bounds-served a.jobs a.settings most_jobs a.n _ (jobs-size (goal.at.After-none_zero c).Start) (settings-size (goal.at.After-none_zero c).Start) c.at_most-count.ensures _ c.fill_bounds-bounds.ensures.0)
     ∙ bounds-done a.jobs a.settings most_jobs a.n _ (jobs-size (goal.at.After-none_zero c).Start) (settings-size (goal.at.After-none_zero c).Start) c.at_most-count.ensures (served (goal.at.After-none_zero c).Start) a.output.now c.if-output-count.false _ c.fill_bounds-bounds.ensures.1
 
 pub returns-then-none_zero : goal.returns-then-none_zero
-returns-then-none_zero c = ap (λ (b : Bool). (given b, c.fill_bounds-bounds.new.settings.1.1.0)) (sym c.if-none_zero.true) ∙ done (goal.at.returns-then-none_zero c).After-none_zero
+returns-then-none_zero c = ap (λ (b : Bool). (given b, c.fill_bounds-bounds.new.output)) (sym c.if-none_zero.true) ∙ done (goal.at.returns-then-none_zero c).After-none_zero
 
 pub returns-else-none_zero : goal.returns-else-none_zero
-returns-else-none_zero c = ap (λ (b : Bool). (given b, c.fill_bounds-bounds.new.settings.1.1.0)) (sym c.if-none_zero.false) ∙ done (goal.at.returns-else-none_zero c).After-none_zero
+returns-else-none_zero c = ap (λ (b : Bool). (given b, c.fill_bounds-bounds.new.output)) (sym c.if-none_zero.false) ∙ done (goal.at.returns-else-none_zero c).After-none_zero

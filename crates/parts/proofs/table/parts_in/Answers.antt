@@ -1,8 +1,9 @@
+use borrow.Author.Rules.{rules}
 use Prim.Native.Nat.{ℕ, min}
 use mathlib.Core.Path.{◌≡◌, sym, ap, subst, ◌∙◌}
 use mathlib.Core.List.{List}
 use native.Mathlib.Omega.{arith}
-use lib.ListN.{length, take, length-map}
+use lib.ListN.{length, take}
 use Rattle.sets.specs.Sets.{has, Collects}
 use Rattle.records.specs.Limits.{most_jobs}
 use Rattle.configuration.specs.Settings.{level_at}
@@ -24,7 +25,7 @@ pub returns : goal.returns
 returns c =
     let above = c.level_set-above in
     let a = c.args in
-    let eight : length a.workload.jobs ≡ most_jobs = simp length-map at c.well-formed.0.1.1.0.1.0.1 in
+    let eight : length a.workload.jobs ≡ most_jobs = search rules in
     let cut : min a.n most_jobs ≡ a.n = omega (arith, c.requires.0) in
     let level = level_at a.settings a.k in
     c.parts_of.ensures

@@ -1,4 +1,4 @@
-use Prim.Native.Nat.{ℕ, suc, ◌+◌, ◌-◌, ◌^◌, ◌≤◌, ◌<◌}
+use Prim.Native.Nat.{ℕ, suc, ◌+◌, ◌^◌, ◌≤◌, ◌<◌}
 use mathlib.Core.Path.{◌≡◌, refl, sym, ap, ◌∙◌}
 use mathlib.Core.List.{List}
 use native.Mathlib.Numerals.{add-one}
@@ -6,7 +6,7 @@ use native.Mathlib.Omega.{arith}
 use lib.ListN.{length, take}
 use lib.Pow.{pow_mono}
 use lib.Seq.{length-take-le}
-use Rattle.sets.specs.Sets.{places, size}
+use Rattle.sets.specs.Sets.{places}
 use Rattle.sets.specs.Order.{subsets}
 use Rattle.sets.proofs.Parts.{size-bound}
 use Rattle.periods.specs.ByPeriods.{total, period_at, by_periods}
@@ -52,8 +52,7 @@ loop-size-init c = (omega arith, alone-misses (goal.at.loop-size-init c).After-f
 module _ (c : In-loop-size) where
   below : c.loop-size.size < places
   below =
-      let s = (goal.at.In-loop-size c).Start (goal.at.In-loop-size c).After-first_of-alone in
-      omega (arith, c.loop-size-test.true, c.size-most.ensures, size-bound places (left (goal.at.In-loop-size c).After-first_of-alone) (omega (arith, s.pre.1, pow_mono s.pre.0.few)))
+      omega (arith, c.loop-size-test.true, c.size-most.ensures, size-bound places (left (goal.at.In-loop-size c).After-first_of-alone) (omega (arith, c.requires.1, pow_mono c.requires.0.few)))
 
 pub overflow_add-size : goal.overflow_add-size
 overflow_add-size c = omega (arith, below (goal.at.overflow_add-size c).In-loop-size)
@@ -82,20 +81,20 @@ module _ (c : After-first_of-choice) where
   abbrev part : List ℕ
   part = take (count (goal.at.After-first_of-choice c).After-subsets_of-found) c.subsets_of-found.result.sets
 
-  room : ((goal.at.After-first_of-choice c).At-loop-size (goal.at.After-first_of-choice c).In-loop-size).loop.missed + c.first_of-choice.result.considered < 2 ^ 16
+  room : c.loop-size.missed + c.first_of-choice.result.considered < 2 ^ 16
   room =
       omega (
         arith,
-        missed-few c.args.question c.requires.0 _ _ c.requires.2 c.args.left c.requires.1 ((goal.at.After-first_of-choice c).At-loop-size (goal.at.After-first_of-choice c).In-loop-size).loop.size ((goal.at.After-first_of-choice c).At-loop-size (goal.at.After-first_of-choice c).In-loop-size).loop.missed ((goal.at.After-first_of-choice c).At-loop-size (goal.at.After-first_of-choice c).In-loop-size).loop.inv.1,
+        missed-few c.args.question c.requires.0 _ _ c.requires.2 c.args.left c.requires.1 c.loop-size.size c.loop-size.missed c.loop-size.invariant.1,
         c.first_of-choice.ensures.few,
         length-take-le (count (goal.at.After-first_of-choice c).After-subsets_of-found) c.subsets_of-found.result.sets (fits (goal.at.After-first_of-choice c).After-subsets_of-found),
         c.subsets_of-found.ensures.few,
       )
 
-  part-are : subsets c.args.left part ≡ heaviest_first (total (period_at (listed c.args.question))) c.args.left (suc ((goal.at.After-first_of-choice c).At-loop-size (goal.at.After-first_of-choice c).In-loop-size).loop.size)
+  part-are : subsets c.args.left part ≡ heaviest_first (total (period_at (listed c.args.question))) c.args.left (suc c.loop-size.size)
   part-are =
-      found-are c.args.question c.requires.0 _ _ c.requires.2 c.args.left c.requires.1 (((goal.at.After-first_of-choice c).At-loop-size (goal.at.After-first_of-choice c).In-loop-size).loop.size + 1) c.subsets_of-found.result c.subsets_of-found.ensures
-      ∙ ap (heaviest_first (total (period_at (listed c.args.question))) c.args.left) (add-one ((goal.at.After-first_of-choice c).At-loop-size (goal.at.After-first_of-choice c).In-loop-size).loop.size)
+      found-are c.args.question c.requires.0 _ _ c.requires.2 c.args.left c.requires.1 (c.loop-size.size + 1) c.subsets_of-found.result c.subsets_of-found.ensures
+      ∙ ap (heaviest_first (total (period_at (listed c.args.question))) c.args.left) (add-one c.loop-size.size)
 
 pub overflow_add-missed : goal.overflow_add-missed
 overflow_add-missed c = omega (arith, room (goal.at.overflow_add-missed c).After-first_of-choice)

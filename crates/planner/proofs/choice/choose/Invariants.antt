@@ -1,5 +1,5 @@
 use Prim.Native.Nat.{◌-◌, ◌≤◌}
-use Rattle.sets.specs.Sets.{places, size}
+use Rattle.sets.specs.Sets.{places}
 use Rattle.sets.specs.Order.{subsets}
 use Rattle.periods.specs.ByPeriods.{total, period_at, by_periods}
 use Rattle.periods.proofs.SizeBySize.{beyond}

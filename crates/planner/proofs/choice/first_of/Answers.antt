@@ -1,4 +1,4 @@
-use Prim.Native.Nat.{ℕ, ◌-◌}
+use Prim.Native.Nat.{ℕ}
 use mathlib.Core.Path.{◌≡◌, sym, ap, ◌∙◌}
 use mathlib.Core.Bool.{Bool, true, false, cond}
 use mathlib.Core.List.{List}
@@ -13,7 +13,7 @@ use Rattle.assignment.specs.Plan.{is_found}
 use Rattle.planner.specs.Questions.{finds}
 use Rattle.planner.proofs.choice.first_of.Invariants.{takeable}
 use Rattle.planner.proofs.choice.first_of.Goals as goal
-use Rattle.planner.proofs.choice.first_of.Goals.{After-next_subset-next, After-quanta_for-answer, In-At-2}
+use Rattle.planner.proofs.choice.first_of.Goals.{After-next_subset-next, After-quanta_for-answer, In-At}
 
 pub loop-at-init : goal.loop-at-init
 loop-at-init c =
@@ -28,17 +28,17 @@ module _ (c : After-next_subset-next) where
   abbrev place : ℕ
   place = c.loop-at.place
 
-module _ (c : In-At-2) where
+module _ (c : In-At) where
   abbrev at : ℕ
   at = c.in-At.at
 
-  step : Step (sequence (goal.at.In-At-2 c).After-next_subset-next) ((goal.at.In-At-2 c).Start (goal.at.In-At-2 c).After-next_subset-next).args.left (place (goal.at.In-At-2 c).After-next_subset-next) at
-  step = walk-found (sequence (goal.at.In-At-2 c).After-next_subset-next) ((goal.at.In-At-2 c).Start (goal.at.In-At-2 c).After-next_subset-next).args.left (place (goal.at.In-At-2 c).After-next_subset-next) at (sym c.next_subset-next.ensures ∙ c.in-At.is)
+  step : Step (sequence (goal.at.In-At c).After-next_subset-next) c.args.left (place (goal.at.In-At c).After-next_subset-next) at
+  step = walk-found (sequence (goal.at.In-At c).After-next_subset-next) c.args.left (place (goal.at.In-At c).After-next_subset-next) at (sym c.next_subset-next.ensures ∙ c.in-At.is)
 
 -- Whether quanta were found for the set.
 module _ (c : After-quanta_for-answer) where
   abbrev set : ℕ
-  set = get_or (sequence ((goal.at.After-quanta_for-answer c).After-next_subset-next (goal.at.After-quanta_for-answer c).In-At-2)) (at (goal.at.After-quanta_for-answer c).In-At-2) 0
+  set = get_or (sequence (goal.at.After-quanta_for-answer c).After-next_subset-next) (at (goal.at.After-quanta_for-answer c).In-At) 0
 
   abbrev given : Bool → Option (List ℕ)
   given b = cond b (some (take c.args.question.n c.quanta_for-answer.result.quanta)) none
@@ -58,11 +58,11 @@ returns-in_default c =
     record { set = sym A.first; quanta = λ p. absurd (omega arith); count = sym A.count; few = omega (arith, c.loop-at.invariant.1, c.loop-at.invariant.2) }
 
 pub bounds-sequence-at : goal.bounds-sequence-at
-bounds-sequence-at c = omega (arith, (step (goal.at.bounds-sequence-at c).In-At-2).before)
+bounds-sequence-at c = omega (arith, (step (goal.at.bounds-sequence-at c).In-At).before)
 
 pub quanta_for-answer-requires : goal.quanta_for-answer-requires
 quanta_for-answer-requires c =
-    (c.requires.0, c.requires.1, omega (arith, within-le (get_or (sequence (goal.at.quanta_for-answer-requires c).After-next_subset-next) (at (goal.at.quanta_for-answer-requires c).In-At-2) 0) c.args.left (step (goal.at.quanta_for-answer-requires c).In-At-2).inside, c.requires.1))
+    (c.requires.0, c.requires.1, omega (arith, within-le (get_or (sequence (goal.at.quanta_for-answer-requires c).After-next_subset-next) (at (goal.at.quanta_for-answer-requires c).In-At) 0) c.args.left (step (goal.at.quanta_for-answer-requires c).In-At).inside, c.requires.1))
 
 pub overflow_add-considered : goal.overflow_add-considered
 overflow_add-considered c =
@@ -72,7 +72,7 @@ pub returns-then-answer : goal.returns-then-answer
 returns-then-answer c =
     let a = c.args in
     let f = found (goal.at.returns-then-answer c).After-quanta_for-answer c.if-answer.true in
-    let S = step (goal.at.returns-then-answer c).In-At-2 in
+    let S = step (goal.at.returns-then-answer c).In-At in
     let A = reached-taken (takeable a.question a.left) (subsets a.left a.sequence.now) _ c.loop-at.missed c.loop-at.invariant.0 _ _ S.first (ap is_found f) in
     record {
       set = sym A.first;
@@ -87,15 +87,15 @@ overflow_add-missed c =
 
 pub overflow_add-place : goal.overflow_add-place
 overflow_add-place c =
-    omega (arith, (step (goal.at.overflow_add-place c).In-At-2).before, c.requires.2)
+    omega (arith, (step (goal.at.overflow_add-place c).In-At).before, c.requires.2)
 
 pub loop-at-smaller : goal.loop-at-smaller
 loop-at-smaller c =
-    let S = step (goal.at.loop-at-smaller c).In-At-2 in
+    let S = step (goal.at.loop-at-smaller c).In-At in
     omega (arith, S.later, S.before)
 
 pub loop-at-preserved : goal.loop-at-preserved
 loop-at-preserved c =
     let a = c.args in
-    let S = step (goal.at.loop-at-preserved c).In-At-2 in
+    let S = step (goal.at.loop-at-preserved c).In-At in
     (reached-next (takeable a.question a.left) (subsets a.left a.sequence.now) _ c.loop-at.missed c.loop-at.invariant.0 _ _ S.first (missed (goal.at.loop-at-preserved c).After-quanta_for-answer c.if-answer.false), omega (arith, c.loop-at.invariant.1, S.later), omega (arith, S.before))

@@ -1,7 +1,6 @@
-use Prim.Native.Nat.{ℕ, ◌-◌}
+use Prim.Native.Nat.{ℕ}
 use mathlib.Core.Path.{◌≡◌, refl, sym, ap, ◌∙◌}
 use mathlib.Core.Bool.{Bool, cond}
-use mathlib.Core.Logic.{⊎_elim}
 use native.Mathlib.Omega.{arith}
 use lib.ListN.{get_or}
 use Rattle.sets.specs.Places.{list_of}
@@ -14,6 +13,7 @@ use Rattle.planner.specs.Questions.{listed}
 use Rattle.planner.proofs.Asked.{asked-bound}
 use Rattle.planner.proofs.levels.bounds_with.Invariants.{next-at}
 use Rattle.planner.proofs.levels.bounds_with.Goals as goal
+use Rattle.planner.proofs.levels.bounds_with.Goals.{then-contains, else-contains}
 
 pub loop-k-init : goal.loop-k-init
 unfolding list_of
@@ -26,10 +26,7 @@ loop-k-preserved c =
     let f = next-at a.question a.bounds a.set a.above a.quanta in
     let test = c.contains.ensures in
     let given : Bool → ℕ = λ b. cond b (bound (listed a.question) a.quanta (has a.set) (has a.above) l.k) (get_or a.bounds l.k 0) in
-    let value : c.if-contains.next ≡ f l.k = ⊎_elim
-    (λ w. w.2 ∙ w.1.ensures ∙ asked-bound a.question a.set a.above c.requires a.quanta l.k (omega arith) ∙ sym (ap given (sym test ∙ w.0.taken)))
-    (λ w. w.1 ∙ sym (ap given (sym test ∙ w.0.left)))
-    c.if-contains.branch
+    let value : c.if-contains.next ≡ f l.k = elim c.if-contains.branch [ then-contains w ↦ w.next-is ∙ w.bound.ensures ∙ asked-bound a.question a.set a.above c.requires a.quanta l.k (omega arith) ∙ sym (ap given (sym test ∙ w.if-contains.true)) | else-contains w ↦ w.next-is ∙ sym (ap given (sym test ∙ w.if-contains.false)) ]
     in
     (omega arith, list-next f most_jobs l.k 0 l.next c.if-contains.next (omega arith) l.invariant.1 value)
 

@@ -1,4 +1,4 @@
-use Prim.Native.Nat.{◌-◌, ◌≤◌}
+use Prim.Native.Nat.{◌≤◌}
 use Rattle.periods.specs.ByPeriods.{by_periods}
 use Rattle.planner.specs.Questions.{listed}
 use Rattle.planner.proofs.LevelByLevel.{Reaches}

@@ -1,7 +1,6 @@
-use Prim.Native.Nat.{ℕ, ◌-◌}
+use Prim.Native.Nat.{ℕ}
 use mathlib.Core.Path.{◌≡◌, refl, sym, ap, ◌∙◌}
 use mathlib.Core.Bool.{Bool, cond}
-use mathlib.Core.Logic.{⊎_elim}
 use native.Mathlib.Omega.{arith}
 use lib.ListN.{get_or}
 use Rattle.sets.specs.Places.{list_of}
@@ -14,6 +13,7 @@ use Rattle.configuration.specs.Settings.{blank_setting, setting_at, setting_tabl
 use Rattle.assignment.specs.Plan.{setting_in}
 use Rattle.planner.proofs.levels.settings_with.Invariants.{next-at}
 use Rattle.planner.proofs.levels.settings_with.Goals as goal
+use Rattle.planner.proofs.levels.settings_with.Goals.{then-contains, else-contains}
 
 pub loop-k-init : goal.loop-k-init
 unfolding list_of
@@ -28,10 +28,7 @@ loop-k-preserved c =
     let id = (job_at a.question.workload.jobs l.k).id in
     let quantum = get_or a.quanta l.k 0 in
     let given : Bool → Setting = λ b. cond b (setting_in id a.level (size a.set) quantum) (setting_at a.settings l.k) in
-    let value : c.if-contains.next ≡ f l.k = ⊎_elim
-    (λ w. w.2 ∙ w.1.ensures ∙ ap (λ (m : ℕ). setting_in id a.level m quantum) c.size-size.ensures ∙ sym (ap given (sym test ∙ w.0.taken)))
-    (λ w. w.2 ∙ sym (ap given (sym test ∙ w.0.left)))
-    c.if-contains.branch
+    let value : c.if-contains.next ≡ f l.k = elim c.if-contains.branch [ then-contains w ↦ w.next-is ∙ w.setting_in.ensures ∙ ap (λ (m : ℕ). setting_in id a.level m quantum) c.size-size.ensures ∙ sym (ap given (sym test ∙ w.if-contains.true)) | else-contains w ↦ w.next-is ∙ sym (ap given (sym test ∙ w.if-contains.false)) ]
     in
     (omega arith, list-next f most_jobs l.k blank_setting l.next c.if-contains.next (omega arith) l.invariant.1 value)
 

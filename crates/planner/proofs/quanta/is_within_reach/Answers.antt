@@ -1,4 +1,4 @@
-use Prim.Native.Nat.{ℕ, ◌-◌, ◌<◌}
+use Prim.Native.Nat.{ℕ, ◌<◌}
 use mathlib.Core.Path.{◌≡◌, sym, ap, ◌∙◌}
 use mathlib.Core.Bool.{false≢true}
 use mathlib.Core.List.{List}
@@ -7,7 +7,6 @@ use native.Mathlib.Omega.{arith}
 use lib.ListN.{length, get_or, set}
 use lib.Seq.{get_or-set_same, get_or-set_other}
 use Rattle.sets.specs.Sets.{has}
-use Rattle.response.specs.Demand.{bound}
 use Rattle.assignment.proofs.Settling.{out-of-reach}
 use Rattle.planner.specs.Questions.{listed}
 use Rattle.planner.proofs.Asked.{listed-length, listed-costs, lowest-at, asked-bound}

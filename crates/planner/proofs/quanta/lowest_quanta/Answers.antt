@@ -1,7 +1,6 @@
-use Prim.Native.Nat.{ℕ, ◌-◌}
+use Prim.Native.Nat.{ℕ}
 use mathlib.Core.Path.{◌≡◌, refl, sym, ap, ◌∙◌}
 use mathlib.Core.Bool.{Bool, cond}
-use mathlib.Core.Logic.{⊎_elim}
 use native.Mathlib.Omega.{arith}
 use Rattle.sets.specs.Places.{list_of}
 use Rattle.sets.specs.Sets.{has}
@@ -11,6 +10,7 @@ use Rattle.records.specs.Records.{table}
 use Rattle.records.proofs.FixedWidth.{list-next, table-full}
 use borrow.Author.Rules.{rules}
 use Rattle.planner.proofs.quanta.lowest_quanta.Goals as goal
+use Rattle.planner.proofs.quanta.lowest_quanta.Goals.{then-contains, else-contains}
 
 pub loop-i-init : goal.loop-i-init
 unfolding list_of
@@ -22,10 +22,7 @@ loop-i-preserved c =
     let a = c.args in
     let f : ℕ → ℕ = λ k. cond (has a.set k) a.low 0 in
     let test = c.contains.ensures in
-    let value : c.if-contains.quanta ≡ f l.i = ⊎_elim
-    (λ w. w.1 ∙ sym (ap (λ (b : Bool). cond b a.low 0) (sym test ∙ w.0.taken)))
-    (λ w. w.1 ∙ sym (ap (λ (b : Bool). cond b a.low 0) (sym test ∙ w.0.left)))
-    c.if-contains.branch
+    let value : c.if-contains.quanta ≡ f l.i = elim c.if-contains.branch [ then-contains w ↦ w.quanta-is ∙ sym (ap (λ (b : Bool). cond b a.low 0) (sym test ∙ w.if-contains.true)) | else-contains w ↦ w.quanta-is ∙ sym (ap (λ (b : Bool). cond b a.low 0) (sym test ∙ w.if-contains.false)) ]
     in
     (search rules, list-next f most_jobs l.i 0 l.quanta c.if-contains.quanta (omega arith) l.invariant.1 value)
 

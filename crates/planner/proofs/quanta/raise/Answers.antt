@@ -1,4 +1,4 @@
-use Prim.Native.Nat.{◌+◌, ◌-◌, ◌<◌}
+use Prim.Native.Nat.{◌+◌, ◌<◌}
 use mathlib.Core.List.{List}
 use Rattle.records.specs.declared.job.Job.{Job}
 use mathlib.Core.Path.{◌≡◌, ◌∙◌}

@@ -1,6 +1,5 @@
-use Prim.Native.Nat.{ℕ, ◌-◌}
+use Prim.Native.Nat.{ℕ}
 use mathlib.Core.Path.{◌≡◌, sym, ◌∙◌, ap}
-use mathlib.Core.Logic.{⊎_elim}
 use native.Mathlib.Omega.{arith}
 use lib.ListN.{get_or}
 use mir.Val.{Fits}
@@ -12,6 +11,7 @@ use Rattle.records.specs.Limits.{most_jobs}
 use Rattle.search.proofs.OtherQuanta.{others-removed}
 use borrow.Author.Rules.{rules}
 use Rattle.search.proofs.quanta.other_quanta.Goals as goal
+use Rattle.search.proofs.quanta.other_quanta.Goals.{then-contains, else-contains}
 
 pub loop-i-init : goal.loop-i-init
 loop-i-init c = (search rules, sym (over_none _ _), omega arith)
@@ -28,10 +28,7 @@ loop-i-preserved c =
     let l = c.loop-i in
     let f : ℕ → ℕ = λ k. get_or a.quanta k 0 in
     let h : Fits w8 (get_or a.quanta l.i 0) = search rules in
-    ⊎_elim
-    (λ w. (omega arith, w.1 ∙ omega (arith, over-in l.i (has c.remove-others.result) f c.contains.ensures w.0.taken, l.invariant.1), omega arith))
-    (λ w. (omega arith, w.1 ∙ omega (arith, over-out l.i (has c.remove-others.result) f c.contains.ensures w.0.left, l.invariant.1), omega arith))
-    c.if-contains.branch
+    elim c.if-contains.branch [ then-contains w ↦ (omega arith, w.sum-is ∙ omega (arith, over-in l.i (has c.remove-others.result) f c.contains.ensures w.if-contains.true, l.invariant.1), omega arith) | else-contains w ↦ (omega arith, w.sum-is ∙ omega (arith, over-out l.i (has c.remove-others.result) f c.contains.ensures w.if-contains.false, l.invariant.1), omega arith) ]
 
 pub returns : goal.returns
 returns c =

@@ -14,7 +14,7 @@ loop-place-preserved-then-is_dropped c =
     let d = drops c.args.workload in
     let more : l.place ≡ suc (l.place - 1) = omega (arith, c.loop-place-test.true) in (
       omega (arith, l.invariant.0),
-      l.invariant.1 ∙ ap (λ (n : ℕ). drop_from d n l.auto) more ∙ drop-one d l.auto (l.place - 1) (sym c.is_dropped.ensures ∙ c.if-is_dropped.true)
+      l.invariant.1 ∙ ap (λ (n : ℕ). drop_from d n l.kept) more ∙ drop-one d l.kept (l.place - 1) (sym c.is_dropped.ensures ∙ c.if-is_dropped.true)
           ∙ ap (drop_from d (l.place - 1)) (sym c.remove-fewer.ensures),
     )
 
@@ -24,7 +24,7 @@ loop-place-preserved c =
     let d = drops c.args.workload in
     let more : l.place ≡ suc (l.place - 1) = omega (arith, c.loop-place-test.true) in (
       omega (arith, l.invariant.0),
-      l.invariant.1 ∙ ap (λ (n : ℕ). drop_from d n l.auto) more ∙ drop-keep d l.auto (l.place - 1) (sym c.is_dropped.ensures ∙ c.if-is_dropped.false),
+      l.invariant.1 ∙ ap (λ (n : ℕ). drop_from d n l.kept) more ∙ drop-keep d l.kept (l.place - 1) (sym c.is_dropped.ensures ∙ c.if-is_dropped.false),
     )
 
 pub returns : goal.returns
@@ -32,4 +32,4 @@ returns c =
     let l = c.loop-place in
     let d = drops c.args.workload in
     let none : l.place ≡ 0 = omega (arith, c.loop-place-test.false) in
-    sym (l.invariant.1 ∙ ap (λ (n : ℕ). drop_from d n l.auto) none ∙ drop-end d l.auto)
+    sym (l.invariant.1 ∙ ap (λ (n : ℕ). drop_from d n l.kept) none ∙ drop-end d l.kept)

@@ -1,4 +1,3 @@
-use Prim.Native.Nat.{◌-◌}
 use mathlib.Core.Path.{refl, sym, ◌∙◌}
 use Rattle.sets.proofs.Walk.{next-found, next-skipped, next-end}
 use Rattle.sets.proofs.order.next_subset.Goals as goal

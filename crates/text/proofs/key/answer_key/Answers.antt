@@ -8,6 +8,7 @@ use Rattle.writing.proofs.Writing.{whole, retold}
 use Rattle.text.proofs.KeyText.{key-refused, answer-refused, answer-given, key-planned, key-few, key-text, key-promise}
 use borrow.Author.Rules.{rules}
 use Rattle.text.proofs.key.answer_key.Goals as goal
+use Rattle.text.proofs.key.answer_key.Goals.{After-put_key-arg-1}
 
 pub returns-in_default : goal.returns-in_default
 returns-in_default c =
@@ -30,7 +31,7 @@ returns-in-Count-planned c =
     let r = c.plan_table-plan.result in
     let text = key-text a.jobs.now a.low a.high _ c.read_call-call.ensures _ c.in-Count.is _ c.plan_table-plan.ensures _ c.in-Count-planned.is in
     let held = key-promise a.jobs.now a.low a.high _ _ _
-    (whole (retold c.put_key-length.ensures (ap (λ (m : ℕ). table_text r.settings r.bounds m c.in-Count-planned.count) c.size-placed.ensures ∙ text)) (put-key-requires (goal.at.returns-in-Count-planned c).After-put_key-arg-1 c.put_key-length.lifetimes).1) in (
+    (whole (retold c.put_key-length.ensures (ap (λ (m : ℕ). table_text r.settings r.bounds m c.in-Count-planned.count) c.size-placed.ensures ∙ text)) (search rules)) in (
       held.0,
       held.1,
       held.2,

@@ -1,5 +1,6 @@
+use borrow.Author.Rules.{rules}
 use mathlib.Core.Path.{◌≡◌, ◌∙◌}
-use lib.ListN.{length, length-map}
+use lib.ListN.{length}
 use Rattle.records.specs.Limits.{most_jobs}
 use Rattle.sets.specs.Sets.{has}
 use Rattle.search.proofs.BothBounds.{first-only}
@@ -8,7 +9,7 @@ use Rattle.search.proofs.workload.Workload.run.Goals as goal
 pub returns : goal.returns
 returns c =
     let a = c.args in
-    let size : length a.self.jobs ≡ most_jobs = simp length-map at c.well-formed.0.1.1.0.1.0.1 in
+    let size : length a.self.jobs ≡ most_jobs = search rules in
     c.bound.ensures
     ∙ first-only (record { jobs = a.self.jobs; utilisations = a.self.utilisations; unassignable = c.single-unassignable.result; sought = a.sought }) a.quanta (has a.layer) (has a.above) a.job
     c.single-unassignable.ensures size
