@@ -8,7 +8,7 @@ use Rattle.lists.specs.Words.{is_mark, before, number_of}
 use Rattle.command.specs.declared.Word.{Word}
 use Rattle.command.specs.declared.Word.TheVariants.{Key, Mark, Bounds, Explain, Loader, Block, Text, Install, Help, Unknown}
 use Rattle.command.specs.declared.Argument.{Argument}
-use Rattle.command.specs.declared.Argument.TheVariants.{Quanta, Priorities, Blocks, Configuration, Back, Bytes, Gate, End, UnknownOption, Name}
+use Rattle.command.specs.declared.Argument.TheVariants.{Quanta, Priorities, Blocks, Configuration, Back, Bytes, End, UnknownOption, Name}
 use Rattle.command.specs.declared.span.Quanta.{Quanta as Chosen}
 use Rattle.command.specs.declared.span.Span.{Span}
 use Rattle.command.specs.declared.span.Span.TheVariants.{Between, Wrong as SpanWrong}
@@ -36,11 +36,9 @@ word_of argument =
 unfoldable pub is_option : List ℕ → Bool
 is_option argument = leb 2 (length argument) && (eqb (get_or argument 0 0) 45 && eqb (get_or argument 1 0) 45)
 
--- `--gate` and `--`; what else begins with two hyphens is an option that there is not.
+-- `--`; what else begins with two hyphens is an option that there is not.
 unfoldable pub other_argument : List ℕ → Argument
-other_argument argument =
-    cond (same_bytes argument (45 ∷ 45 ∷ 103 ∷ 97 ∷ 116 ∷ 101 ∷ [])) Gate
-    (cond (same_bytes argument (45 ∷ 45 ∷ [])) End (cond (is_option argument) UnknownOption Name))
+other_argument argument = cond (same_bytes argument (45 ∷ 45 ∷ [])) End (cond (is_option argument) UnknownOption Name)
 
 -- `--quanta`, `--priorities`, `--block`, `--configuration`, `--back` and `--bytes`.
 unfoldable pub argument_of : List ℕ → Argument

@@ -32,7 +32,6 @@ pub enum Argument {
     Configuration,
     Back,
     Bytes,
-    Gate,
     End,
     UnknownOption,
     Name,
@@ -98,13 +97,10 @@ fn is_option(argument: &[u8]) -> bool
     argument[1] == b'-'
 }
 
-// `--gate`, the end of the options, an option that there is not, or a name.
+// What an argument is that is no option that there is.
 fn other_argument(argument: &[u8]) -> Argument
     ensures { result ≡ other_argument argument.now }
 {
-    if same_bytes(argument, b"--gate") {
-        return Argument::Gate;
-    }
     if same_bytes(argument, b"--") {
         return Argument::End;
     }

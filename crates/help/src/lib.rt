@@ -20,7 +20,6 @@ pub fn all_words() -> &'static [u8] {
 
   --quanta LOW-HIGH           the quanta that are permitted; else those of the list, else 1-4
   --block                     the files are blocks and not texts (all words with a LIST)
-  --gate                      the box is the start gate's: up to 4 jobs, quanta up to 16 (key, mark)
   --configuration             the file is a configuration and not a list (block, text)
   --priorities LOWEST-HIGHEST the priorities that the kernel has (loader)
   --back                      kernel records are read, and their configuration written (loader)
@@ -32,7 +31,7 @@ A FILE that is - is standard input. Status 0: yes; 1: no; 2: no answer, and why 
 
 fn key(rt: &impl Print) -> Result<()> {
     rt.write_all(
-        b"ruzhtylen key [--quanta LOW-HIGH] [--block] [--gate] LIST
+        b"ruzhtylen key [--quanta LOW-HIGH] [--block] LIST
 
 Prints a line per job, id level policy quantum bound, and how many are placed.
 Level 1 runs first; policy 1 is sched_fifo, 2 is sched_rr; a job left over has zeros.
@@ -41,8 +40,6 @@ size by the larger sum of periods, then by the smaller number of the set, in whi
 jobs count 1, 2, 4 and so on. So longer periods go lower where that passes.
 Where all are placed the configuration passes, and the status is 0. Where jobs are left,
 no configuration of the list in that range passes, which is proved, and the status is 1.
-With --gate the box is the start gate's: more than 4 jobs, or a highest quantum above 16,
-are refused with 15. What is not refused has the same key as without.
 ",
     )
 }
@@ -59,13 +56,11 @@ line quanta LOW HIGH. From # on a line is a comment.
 
 fn mark(rt: &impl Print) -> Result<()> {
     rt.write_all(
-        b"ruzhtylen mark [--quanta LOW-HIGH] [--block] [--gate] LIST HAND-IN..
+        b"ruzhtylen mark [--quanta LOW-HIGH] [--block] LIST HAND-IN..
 
 One HAND-IN: a line per job with its bound and its deadline, then passes, or fails and
 the jobs that have no bound up to their deadline. Several: a line per file.
 The status is 0 where all pass, 1 where one fails, 2 where one is refused or not read.
-With --gate the box is the start gate's: more than 4 jobs, or a highest quantum above 16,
-are refused with 15. What is not refused has the same mark as without.
 ",
     )
 }

@@ -68,7 +68,8 @@ bounds_outcome jobs low high configuration output =
 
 -- Refusals 1 to 12.
 abbrev pub mark_tests : List ℕ → ℕ → ℕ → List ℕ → ℕ → Tests
-mark_tests jobs low high configuration room = call_tests jobs low high ++ mark_hand_in_tests (job_list jobs) low high configuration room
+mark_tests jobs low high configuration room =
+    call_tests jobs low high ++ (hand_in_tests (job_list jobs) low high configuration ++ bounds_room (job_list jobs) room)
 
 -- The outcome of mark: whether the configuration passes, and the output at exit.
 unfoldable pub mark_outcome : List ℕ → ℕ → ℕ → List ℕ → List ℕ → Answer Bool × List ℕ

@@ -42,7 +42,7 @@ fault-told SecondRange = (refl, leb-true _ _ refl)
 -- ---- refusals
 
 unfoldable pub sentences : List Sentence
-sentences = NoJobs ∷ JobBytes ∷ ManyJobs ∷ ZeroId ∷ IdNotAbove ∷ ZeroCost ∷ CostOverDeadline ∷ CostOverPeriod ∷ LongPeriod ∷ LongDeadline ∷ ZeroQuantum ∷ EmptyRange ∷ LongQuantum ∷ SettingBytes ∷ SettingCount ∷ OtherId ∷ NumbersOfNone ∷ NoPolicy ∷ LevelOutside ∷ FifoQuantum ∷ QuantumOutside ∷ FifoShares ∷ Alone ∷ NotPlaced ∷ EmptyPriorities ∷ FewPriorities ∷ KernelBytes ∷ PriorityOutside ∷ KernelPolicy ∷ FifoSharesPriority ∷ AlonePriority ∷ GateJobs ∷ GateQuantum ∷ Unknown ∷ []
+sentences = NoJobs ∷ JobBytes ∷ ManyJobs ∷ ZeroId ∷ IdNotAbove ∷ ZeroCost ∷ CostOverDeadline ∷ CostOverPeriod ∷ LongPeriod ∷ LongDeadline ∷ ZeroQuantum ∷ EmptyRange ∷ LongQuantum ∷ SettingBytes ∷ SettingCount ∷ OtherId ∷ NumbersOfNone ∷ NoPolicy ∷ LevelOutside ∷ FifoQuantum ∷ QuantumOutside ∷ FifoShares ∷ Alone ∷ NotPlaced ∷ EmptyPriorities ∷ FewPriorities ∷ KernelBytes ∷ PriorityOutside ∷ KernelPolicy ∷ FifoSharesPriority ∷ AlonePriority ∷ Unknown ∷ GateJobs ∷ GateQuantum ∷ []
 
 -- The template of a sentence is its line, and has at most 60 bytes.
 pub sentence-told : (sentence : Sentence) → (line_of (lines_of template sentences) (sentence_line sentence) ≡ template sentence) × (length (template sentence) ≤ 60)

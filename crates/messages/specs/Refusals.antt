@@ -113,9 +113,9 @@ sentence_line PriorityOutside = 27
 sentence_line KernelPolicy = 28
 sentence_line FifoSharesPriority = 29
 sentence_line AlonePriority = 30
-sentence_line GateJobs = 31
-sentence_line GateQuantum = 32
-sentence_line Unknown = 33
+sentence_line Unknown = 31
+sentence_line GateJobs = 32
+sentence_line GateQuantum = 33
 
 -- `line %: ` or `record %: `: a record by its line in a text, or by its place in a block, counted from 1.
 abbrev pub place_text : Naming → List ℕ → ℕ → List ℕ

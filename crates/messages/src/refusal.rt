@@ -54,9 +54,9 @@ fn sentence_line(sentence: Sentence) -> usize
         Sentence::KernelPolicy => 28,
         Sentence::FifoSharesPriority => 29,
         Sentence::AlonePriority => 30,
-        Sentence::GateJobs => 31,
-        Sentence::GateQuantum => 32,
-        Sentence::Unknown => 33,
+        Sentence::Unknown => 31,
+        Sentence::GateJobs => 32,
+        Sentence::GateQuantum => 33,
     }
 }
 
@@ -98,9 +98,9 @@ the priority % is not from % to %
 the policy % is neither 1 nor 2
 policy fifo, and another job has priority % too
 policy rr, and no other job has priority %
+the table of refusals says why
 the list has % jobs, and the start gate takes at most %
 the highest quantum is %, and the start gate takes at most %
-the table of refusals says why
 ",
         sentence_line(sentence),
         [numbers[0], numbers[1], numbers[2], numbers[3], 0, 0, 0, 0],

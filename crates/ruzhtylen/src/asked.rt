@@ -24,7 +24,6 @@ pub struct Asked {
     pub configuration: bool,
     pub back: bool,
     pub bytes: bool,
-    pub gate: bool,
     pub names: u32,
     pub first: usize,
     pub second: usize,
@@ -50,7 +49,6 @@ pub fn nothing() -> Asked {
         configuration: false,
         back: false,
         bytes: false,
-        gate: false,
         names: 0,
         first: 0,
         second: 0,
@@ -165,10 +163,6 @@ fn with_option(asked: Asked, argument: Argument) -> Asked {
             next.bytes = true;
             next
         }
-        Argument::Gate => {
-            next.gate = true;
-            next
-        }
         Argument::End => {
             next.ended = true;
             next
@@ -199,7 +193,6 @@ fn is_unknown(argument: Argument) -> bool {
         Argument::Configuration => false,
         Argument::Back => false,
         Argument::Bytes => false,
-        Argument::Gate => false,
         Argument::End => false,
         Argument::UnknownOption => true,
         Argument::Name => false,
@@ -214,7 +207,6 @@ fn is_name(argument: Argument) -> bool {
         Argument::Configuration => false,
         Argument::Back => false,
         Argument::Bytes => false,
-        Argument::Gate => false,
         Argument::End => false,
         Argument::UnknownOption => false,
         Argument::Name => true,

@@ -2,6 +2,7 @@
 ghost use Rattle.std.specs.Prelude.{◌≤◌, ◌≡◌, length};
 
 use crate::{arguments, say, slices};
+use std::fmt::InlineText;
 use std::fs;
 use std::io::Read;
 use std::rt::{Env, Files};
@@ -75,7 +76,7 @@ fn read_all(file: &mut impl Read, shown: &[u8], room: &mut [u8]) -> Got {
     }
 }
 
-// A path of std is text, so that no file of such a name can be opened by it.
+// Without the command nobody lends a file whose name is not text.
 fn refuse_name(shown: &[u8]) -> Got {
     say::message(shown);
     say::message(
@@ -94,10 +95,46 @@ fn read_text_named(rt: &impl Files, name: &str, shown: &[u8], room: &mut [u8]) -
     }
 }
 
-fn read_named(rt: &impl Files, name: &[u8], shown: &[u8], room: &mut [u8]) -> Got {
-    match str::from_utf8(name) {
+// The path of argument i in the folder that the command lends: its length, or 0 where there is no such folder.
+fn put_lent(rt: &impl Env, i: usize, path: &mut [u8]) -> usize
+    ensures { (result ≤ length path.new) × (length path.new ≡ length path.old) }
+{
+    let folder = match rt.var("RUZHTYLEN_NAMES", &mut *path) {
+        Ok(length) => slices::within(length, path),
+        Err(_) => 0,
+    };
+    if folder == 0 {
+        return 0;
+    }
+    let slash = append(b"/", 1, &mut *path, folder);
+    let number = InlineText::<24>::of(i);
+    let digits = number.as_str().as_bytes();
+    append(digits, digits.len(), &mut *path, slash)
+}
+
+// A path of std is text. The command lends files of other names under their numbers as arguments.
+fn read_lent(rt: &(impl Env + Files), i: usize, shown: &[u8], room: &mut [u8]) -> Got {
+    let mut path = io::buffer();
+    let length = put_lent(rt, i, &mut path);
+    if length == 0 {
+        return refuse_name(shown);
+    }
+    match str::from_utf8(&path[..length]) {
         Ok(name) => read_text_named(rt, name, shown, room),
         Err(_) => refuse_name(shown),
+    }
+}
+
+fn read_named(
+    rt: &(impl Env + Files),
+    i: usize,
+    name: &[u8],
+    shown: &[u8],
+    room: &mut [u8],
+) -> Got {
+    match str::from_utf8(name) {
+        Ok(name) => read_text_named(rt, name, shown, room),
+        Err(_) => read_lent(rt, i, shown, room),
     }
 }
 
@@ -116,7 +153,7 @@ fn read_argument(rt: &(impl Env + Files + Input), i: usize, room: &mut [u8]) -> 
     let shown_length = arguments::read(rt, i, &mut shown);
     command::show(&mut shown);
     let shown_end = slices::within(shown_length, &shown);
-    read_named(rt, &name[..length], &shown[..shown_end], room)
+    read_named(rt, i, &name[..length], &shown[..shown_end], room)
 }
 
 // Reads the file that is argument i.

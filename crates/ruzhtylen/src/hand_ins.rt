@@ -114,7 +114,7 @@ pub fn mark(rt: &(impl Env + Files + Input + Print), asked: Asked) -> u8 {
         return say::NOT_ANSWERED;
     }
     let quanta = quanta::quanta_of(asked, list);
-    if refused::is_refused(rt, asked, list, quanta) {
+    if refused::is_refused(rt, asked.first, asked.ranged, list, quanta) {
         return say::NOT_ANSWERED;
     }
     mark_all(rt, asked, list, quanta)

@@ -128,7 +128,7 @@ pub fn loader(rt: &(impl Env + Files + Input + Print), asked: Asked) -> u8 {
         return say::NOT_ANSWERED;
     }
     let quanta = quanta::quanta_of(asked, list);
-    if refused::is_refused(rt, asked, list, quanta) {
+    if refused::is_refused(rt, asked.first, asked.ranged, list, quanta) {
         return say::NOT_ANSWERED;
     }
     if is_refused(rt, asked, list, quanta) {

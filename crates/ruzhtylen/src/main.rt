@@ -169,15 +169,6 @@ fn install() -> u8 {
     wrong(b"install is a word of the command in a clone: ./ruzhtylen install PREFIX\n")
 }
 
-// Whether a word takes `--gate`.
-fn takes_gate(word: Word) -> bool {
-    match word {
-        Word::Key => true,
-        Word::Mark => true,
-        _ => false,
-    }
-}
-
 fn is_loader(word: Word) -> bool {
     if let Word::Loader = word {
         return true;
@@ -193,11 +184,6 @@ fn answer(rt: &(impl Env + Files + Input + Print), word: Word, asked: Asked) -> 
     if has_loader_option(asked) {
         if !is_loader(word) {
             return wrong(b"--priorities, --back and --bytes are options of loader\n");
-        }
-    }
-    if asked.gate {
-        if !takes_gate(word) {
-            return wrong(b"--gate is an option of key and mark\n");
         }
     }
     match word {

@@ -1,35 +1,21 @@
 // Refusals, said of the file that is refused.
-use crate::asked::Asked;
 use crate::source::Source;
 use crate::{say, slices};
 use command::span::Quanta;
 use kernel::priority::KernelPriority;
-use limits::Limits;
-use reasons::reason::{Reason, Sentence};
+use reasons::reason::Reason;
 use records::job::Job;
 use records::refusal::Counted;
 use std::rt::Env;
 
-// Whether what is said is about a range that an option gave: refusal 6, and of refusal 15 what it says of quanta.
-fn is_of_option(optioned: bool, number: u8, sentence: Sentence) -> bool {
-    if !optioned {
-        return false;
-    }
-    if number == 6 {
-        return true;
-    }
-    if let Sentence::GateQuantum = sentence {
-        return true;
-    }
-    false
-}
-
 // A range that an option gave is no file's, and priorities are always an option's.
-fn say_about(rt: &impl Env, i: usize, of_option: bool, number: u8, text: &[u8]) {
-    if of_option {
-        say::message(b"--quanta: ");
-        say::message(text);
-        return;
+fn say_about(rt: &impl Env, i: usize, optioned: bool, number: u8, text: &[u8]) {
+    if optioned {
+        if number == 6 {
+            say::message(b"--quanta: ");
+            say::message(text);
+            return;
+        }
     }
     if number == 13 {
         say::message(b"--priorities: ");
@@ -50,11 +36,9 @@ fn say_refusal(
 ) -> u8 {
     let naming = source.naming;
     let lines = source.lines;
-    let sentence = reason.sentence;
-    let of_option = is_of_option(optioned, number, sentence);
     let mut output = [0u8; messages::refusal::SIZE];
     let length = messages::refusal::put_refusal(number, naming, lines, reason, &mut output);
-    say_about(rt, i, of_option, number, &output[..length]);
+    say_about(rt, i, optioned, number, &output[..length]);
     say::NOT_ANSWERED
 }
 
@@ -152,32 +136,14 @@ pub fn refuse_priorities(
     say_refusal(rt, 0, number, true, list, reason)
 }
 
-// Says why the list that is asked about, or the range, is refused by a box with limits.
-fn refuse_call(
-    rt: &impl Env,
-    asked: Asked,
-    limits: Limits,
-    list: Source,
-    quanta: Quanta,
-    number: u8,
-) -> u8 {
-    if number == 15 {
-        let n = list.kept / Job::SIZE;
-        let reason = reasons::limited::limits_reason(number, limits, n, quanta.high);
-        return say_refusal(rt, asked.first, number, asked.ranged, list, reason);
-    }
-    refuse_list(rt, asked.first, asked.ranged, list, quanta, number)
-}
-
-// Whether the list that is asked about, or the range, is refused by the box that is asked for; then why is said.
-pub fn is_refused(rt: &impl Env, asked: Asked, list: Source, quanta: Quanta) -> bool {
-    let limits = Limits::of_box(asked.gate);
+// Whether a list, which is argument i, or its range is refused; then why is said.
+pub fn is_refused(rt: &impl Env, i: usize, optioned: bool, list: Source, quanta: Quanta) -> bool {
     let bytes = list.bytes;
     let kept = slices::within(list.kept, &bytes);
-    let call = limits::read_call(limits, &bytes[..kept], quanta.low, quanta.high);
+    let call = records::call::read_call(&bytes[..kept], quanta.low, quanta.high);
     let answer = call.answer;
     if let Counted::Refused(refusal) = answer {
-        refuse_call(rt, asked, limits, list, quanta, refusal.number());
+        refuse_list(rt, i, optioned, list, quanta, refusal.number());
         return true;
     }
     false

@@ -14,9 +14,6 @@ pub fn key(rt: &(impl Env + Files + Input + Print), asked: Asked) -> u8 {
         return say::NOT_ANSWERED;
     }
     let quanta = quanta::quanta_of(asked, list);
-    if refused::is_refused(rt, asked, list, quanta) {
-        return say::NOT_ANSWERED;
-    }
     let bytes = list.bytes;
     let kept = slices::within(list.kept, &bytes);
     let mut output = [0u8; text::key::SIZE];
@@ -26,7 +23,6 @@ pub fn key(rt: &(impl Env + Files + Input + Print), asked: Asked) -> u8 {
     match answer {
         Answered::Yes => say::answer(rt, say::YES, &output[..length]),
         Answered::No => say::answer(rt, say::NO, &output[..length]),
-        // The list and the range have been let by above, so that this is not met.
         Answered::Refused(refusal) => {
             refused::refuse_list(
                 rt,
@@ -116,7 +112,7 @@ fn of_configuration(rt: &(impl Env + Files + Input + Print), asked: Asked, expla
         return say::NOT_ANSWERED;
     }
     let quanta = quanta::quanta_of(asked, list);
-    if refused::is_refused(rt, asked, list, quanta) {
+    if refused::is_refused(rt, asked.first, asked.ranged, list, quanta) {
         return say::NOT_ANSWERED;
     }
     let hand_in = source::load(rt, asked.second, Form::Setting, asked.blocks);

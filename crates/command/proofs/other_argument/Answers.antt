@@ -6,17 +6,12 @@ pub returns-then-same_bytes : goal.returns-then-same_bytes
 unfolding other_argument
 returns-then-same_bytes c = simp (sym c.same_bytes.ensures ∙ c.if-same_bytes.true)
 
-pub returns-then-same_bytes-2 : goal.returns-then-same_bytes-2
-unfolding other_argument
-returns-then-same_bytes-2 c =
-    simp (sym c.same_bytes.ensures ∙ c.if-same_bytes.false, sym c.same_bytes-2.ensures ∙ c.if-same_bytes-2.true)
-
 pub returns-then-is_option : goal.returns-then-is_option
 unfolding other_argument
 returns-then-is_option c =
-    simp (sym c.same_bytes.ensures ∙ c.if-same_bytes.false, sym c.same_bytes-2.ensures ∙ c.if-same_bytes-2.false, sym c.is_option.ensures ∙ c.if-is_option.true)
+    simp (sym c.same_bytes.ensures ∙ c.if-same_bytes.false, sym c.is_option.ensures ∙ c.if-is_option.true)
 
 pub returns : goal.returns
 unfolding other_argument
 returns c =
-    simp (sym c.same_bytes.ensures ∙ c.if-same_bytes.false, sym c.same_bytes-2.ensures ∙ c.if-same_bytes-2.false, sym c.is_option.ensures ∙ c.if-is_option.false)
+    simp (sym c.same_bytes.ensures ∙ c.if-same_bytes.false, sym c.is_option.ensures ∙ c.if-is_option.false)
