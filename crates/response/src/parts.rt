@@ -1,7 +1,7 @@
 // The parts of a bound (02, E6).
 
 // In 02's order: the first instance that reaches the bound, which of the two bounds decided (1 or 2), own work, layer share, work from
-// above, the delay J, and the typeof.j.T taken off.
+// above, the delay J, and the j·T taken off.
 #[derive(Clone, Copy)]
 pub struct Parts {
     pub instance: u8,
