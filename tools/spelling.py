@@ -14,8 +14,8 @@ import sys
 
 NAME = re.compile(r"(?<![\w'·₀-₉-])([a-zA-Z][\w'₀-₉-]*)")
 CAMEL = re.compile(r"^[a-z][a-z0-9]*[A-Z]")
-# Lemmas whose spelling falls together with that of the definition that they speak of.
-LEMMAS = {"assignment": "is_found", "explaining": "none_over", "marking": "none_over"}
+# Lemmas whose spelling falls together with that of the definition that they speak of, as that is named before.
+LEMMAS = {"assignment": "isFound", "explaining": "noneOver", "marking": "noneOver"}
 
 
 def snake(name):
@@ -35,8 +35,11 @@ def read(path):
         return file.read()
 
 
-def lemmas(root):
-    for crate, name in LEMMAS.items():
+def lemmas(root, names):
+    for crate, definition in LEMMAS.items():
+        if definition not in names:
+            continue
+        name = snake(definition)
         for path in texts(os.path.join(root, "crates", crate), (".antt",)):
             old = read(path)
             new = re.sub(r"(?<![\w'.·-])" + name + r"(?![\w'-])", name + "_lem", old)
@@ -52,7 +55,7 @@ def main():
     names = set()
     for path in texts("crates", (".rt", ".antt")):
         names.update(n for n in NAME.findall(read(path)) if CAMEL.match(n))
-    lemmas(root)
+    lemmas(root, names)
     turn = lambda m: snake(m.group(1)) if m.group(1) in names else m.group(1)
     pages = [p for p in texts(".", (".md", ".1")) if not p.startswith("./crates")]
     for path in [*texts("crates", (".rt", ".antt", ".edit")), *pages]:
