@@ -26,7 +26,7 @@ use reference::generation::{cases, cases_of_kind, entry_of_case, input_of_case, 
 use reference::jobs::{jobs_of_records, Job};
 use reference::response_time::{bounds_of_records, BOUND_BYTES};
 
-/// How many cases are stored.
+/// How many cases there are, with those that are stored first.
 const STORED: usize = 11_100;
 
 /// The stored cases.
@@ -100,8 +100,10 @@ fn answered_bounds(case: &Case) -> Option<(Vec<Job>, Vec<Setting>, Vec<u16>)> {
 fn the_stored_cases_are_all_kinds_once() {
     let cases: usize = KINDS.iter().map(|kind| kind.cases).sum();
     assert_eq!(cases, STORED);
+    // Those of the start gate, the last kind, are drawn by the gate and in no file.
+    let in_files = cases_of_kind(KINDS[KINDS.len() - 1]).start;
     let script = include_str!("../../stored");
-    assert!(script.contains(&format!(" 1 {STORED} ")));
+    assert!(script.contains(&format!(" 1 {in_files} ")));
     let readme = include_str!("../../README.md");
     for kind in KINDS {
         let cases = cases_of_kind(kind);
