@@ -97,10 +97,10 @@ module _ (jobs : List ℕ) (low high : ℕ) (call : Call) (is : asked call ≡ r
         ap (λ (x : Answer Asked × Unit {0}). x.0) (gone-past (call_tests jobs low high) (question jobs low high) tt tt call.answer asked-value is more (question jobs low high) tt tt n count)
         ∙ ap (λ (t : Tests). answer t (question jobs low high)) (sym (append-nil more))
 
-    more-turned : (refusal : Refusal) → v ≡ NotAccepted refusal → refused (number refusal) ≡ longer
+    pub more-turned : (refusal : Refusal) → v ≡ NotAccepted refusal → refused (number refusal) ≡ longer
     more-turned refusal e = sym (past-range ∙ ap (λ (x : Answer Asked × Unit {0}). x.0) (turned_by more [] (question jobs low high) tt tt v judged refusal e))
 
-    more-on : v ≡ Accepted → asked call ≡ longer
+    pub more-on : v ≡ Accepted → asked call ≡ longer
     more-on e =
         let on = handed-on (call_tests jobs low high) (question jobs low high) tt tt call.answer asked-value is n count in
         ap (λ (x : Counted). handed x asked-value) count

@@ -228,7 +228,7 @@ const WORKED: [Worked; 26] = [
 ];
 
 #[test]
-fn worked_calls_of_the_gate_are_stored() {
+fn worked_calls_of_the_gate_are_drawn() {
     for (entry, range, times, settings, number) in WORKED {
         let block = records_of_jobs(&jobs(times));
         let mut cases = cases_of(&START_GATE, entry).filter(|case| {

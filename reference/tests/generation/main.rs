@@ -29,7 +29,7 @@ use reference::response_time::{bounds_of_records, BOUND_BYTES};
 /// How many cases there are, with those that are stored first.
 const STORED: usize = 11_100;
 
-/// The stored cases.
+/// The stored cases, and those of the start gate after them.
 fn stored() -> &'static [Case] {
     static CASES: OnceLock<Vec<Case>> = OnceLock::new();
     CASES.get_or_init(|| cases(1, STORED))
