@@ -12,10 +12,9 @@ use lib.Seq.{ext_get_or, drop-cons, drop-drop, set_at, append_snoc, take_all, ta
 use borrow.Author.Tests.{lt-leb, le-leb, leb-true}
 use Rattle.sets.specs.Places.{list_of}
 use Rattle.sets.proofs.Places.{list-suc, list_length, list_at}
-use Rattle.records.specs.Refusals.{Answer, refused, given, number, outcome, verdict, counted, verdict_of}
-use Rattle.records.specs.declared.refusal.Verdict.{Verdict}
-use Rattle.records.specs.declared.refusal.Counted.{Counted}
-use Rattle.records.specs.declared.refusal.Counted.TheVariants.{Count, Refused}
+use Rattle.std.specs.Prelude.{Result, Ok, Err}
+use Rattle.records.specs.Refusals.{Answer, refused, given, number, Tests, outcome, counted}
+use Rattle.records.specs.declared.refusal.Refusal.{Refusal}
 use Rattle.records.specs.Records.{word, word_of, word_bytes, long_bytes, flat, chunks, table, written, room_tests, write_records}
 use Rattle.records.proofs.Outcomes.{accepts, keeps, gives, refuses-alike}
 
@@ -178,19 +177,29 @@ wrote-within w bytes xs output got size e f =
     let told = gives (room_tests need (length output)) need (written w bytes xs output) output got size e f in
     omega (arith, told.1, leb-true need (length output) told.0.0)
 
--- What a writer comes to where its count is not told.
-pub wrote-done : {A : Type 0} (w : ℕ) (bytes : A → List ℕ) (xs : List A) (output : List ℕ) (wrote : Counted) (after : List ℕ) → (counted wrote, after) ≡ write_records w bytes xs output
-    → (v : Verdict) → v ≡ verdict_of wrote → (verdict v, after) ≡ outcome (room_tests (w * length xs) (length output)) tt (written w bytes xs output) output
-unfolding write_records
-wrote-done w bytes xs output (Count n) after e v f =
-    let tests = room_tests (w * length xs) (length output) in
-    let told = gives tests (w * length xs) (written w bytes xs output) output (counted (Count n), after) n e refl in
-    ap₂ (λ (x : Verdict) (l : List ℕ). (verdict x, l)) f told.2 ∙ sym (accepts tt (written w bytes xs output) output tests told.0)
-wrote-done w bytes xs output (Refused refusal) after e v f =
-    let tests = room_tests (w * length xs) (length output) in
-    let told : (outcome tests (w * length xs) (written w bytes xs output) output).0 ≡ refused (number refusal) = ap (λ (x : Answer ℕ × List ℕ). x.0) (sym e) in
-    ap₂ (λ (x : Verdict) (l : List ℕ). (verdict x, l)) f (ap (λ (x : Answer ℕ × List ℕ). x.1) e ∙ keeps (w * length xs) (written w bytes xs output) output tests (number refusal) told)
-    ∙ sym (refuses-alike tests (w * length xs) (written w bytes xs output) output tt (written w bytes xs output) output (number refusal) told)
+-- What a writer comes to where its count is not told: it is turned down, or it wrote.
+module _ {A : Type 0} (w : ℕ) (bytes : A → List ℕ) (xs : List A) (output : List ℕ) (wrote : Result ℕ Refusal) (after : List ℕ)
+    (e : (counted wrote, after) ≡ write_records w bytes xs output)
+  where
+    abbrev tests : Tests
+    tests = room_tests (w * length xs) (length output)
+
+    -- The outcome of such a writer.
+    abbrev done : Answer (Unit {0}) × List ℕ
+    done = outcome tests tt (written w bytes xs output) output
+
+    pub wrote-turned : (refusal : Refusal) → wrote ≡ Err refusal → (refused (number refusal), after) ≡ done
+    unfolding write_records
+    wrote-turned refusal f =
+        let told : (outcome tests (w * length xs) (written w bytes xs output) output).0 ≡ refused (number refusal) = ap (λ (x : Answer ℕ × List ℕ). x.0) (sym e) ∙ ap counted f in
+        ap (λ (l : List ℕ). (refused (number refusal), l)) (ap (λ (x : Answer ℕ × List ℕ). x.1) e ∙ keeps (w * length xs) (written w bytes xs output) output tests (number refusal) told)
+        ∙ sym (refuses-alike tests (w * length xs) (written w bytes xs output) output tt (written w bytes xs output) output (number refusal) told)
+
+    pub wrote-done : (n : ℕ) → wrote ≡ Ok n → (given tt, after) ≡ done
+    unfolding write_records
+    wrote-done n f =
+        let told = gives tests (w * length xs) (written w bytes xs output) output (counted wrote, after) n e (ap counted f) in
+        ap (λ (l : List ℕ). (given tt, l)) told.2 ∙ sym (accepts tt (written w bytes xs output) output tests told.0)
 
 -- ---- the round trips, from the round trip of one record
 

@@ -27,10 +27,8 @@ pub(crate) fn decode(block: &[u8], n: usize) -> [Job; Job::MOST]
     ensures { result ≡ job_table (jobs_in n block.now) }
 {
     let mut table = [Job::BLANK; Job::MOST];
-    let mut i = 0;
-    while i < n {
+    for i in 0..n {
         table[i] = get_job(&block[Job::SIZE * i..]);
-        i += 1;
     }
     table
 }
@@ -55,10 +53,8 @@ pub(crate) fn encode(table: [Job; Job::MOST], n: usize, output: &mut [u8])
     requires { (n ≤ most_jobs) × (job_size * n ≤ length output.old) }
     ensures { output.new ≡ written job_size job_bytes (take n table) output.old }
 {
-    let mut i = 0;
-    while i < n {
+    for i in 0..n {
         let job = table[i];
         put_job(&mut output[Job::SIZE * i..], job);
-        i += 1;
     }
 }

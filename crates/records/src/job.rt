@@ -16,13 +16,6 @@ pub struct Job {
     pub deadline: u16,
 }
 
-// What making a job answers.
-#[derive(Clone, Copy)]
-pub enum NewJob {
-    Made(Job),
-    Refused(Refusal),
-}
-
 impl Job {
     // The longest period, in ticks.
     pub const LONGEST_PERIOD: u16 = 60000;
@@ -75,16 +68,16 @@ impl Job {
     }
 
     // A job, or the first refusal that applies to its numbers.
-    pub fn new(id: u8, delay: u8, cost: u16, period: u16, deadline: u16) -> NewJob
+    pub fn new(id: u8, delay: u8, cost: u16, period: u16, deadline: u16) -> Result<Job, Refusal>
         ensures { new_job_answer result ≡ answer (new_job_tests id cost period deadline) (record { id = id; delay = delay; cost = cost; period = period; deadline = deadline }) }
     {
         if id < 1 {
-            return NewJob::Refused(Refusal::JobId);
+            return Err(Refusal::JobId);
         }
         if !Job::times_ok(cost, period, deadline) {
-            return NewJob::Refused(Refusal::JobTimes);
+            return Err(Refusal::JobTimes);
         }
-        NewJob::Made(Job {
+        Ok(Job {
             id,
             delay,
             cost,

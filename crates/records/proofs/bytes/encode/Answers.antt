@@ -20,13 +20,13 @@ loop-i-preserved c =
     let l = c.loop-i in
     let a = c.args in
     let put = c.put_job in
-    (search rules, search rules, write-next job_bytes job_size job-width l.i a.table blank_job a.output.now l.output put.new.output (search rules) l.invariant.2 put.ensures)
+    (search rules, write-next job_bytes job_size job-width l.i a.table blank_job a.output.now l.output put.new.output (search rules) l.invariant.1 put.ensures)
 
 pub returns : goal.returns
 returns c =
     let l = c.loop-i in
     let a = c.args in
     let e : l.i ≡ a.n = omega arith in
-    l.invariant.2
+    l.invariant.1
     ∙ ap (λ (k : ℕ). bytes_of (take k a.table) ++ drop (job_size * k) a.output.now) e
     ∙ written_at job_size job_bytes (take a.n a.table) a.n a.output.now (length-take-le a.n a.table (search rules))
