@@ -26,17 +26,21 @@ map-append : {A B : Type 0} (f : A → B) (xs ys : List A) → map f (xs ++ ys) 
 map-append f [] ys = refl
 map-append {A} {B} f (x ∷ xs) ys = ap (λ (l : List B). f x ∷ l) (map-append f xs ys)
 
+-- A table of k entries that is made of the first entries of a list: one entry on.
+pub table-on : {A B : Type 0} (from : A → B) (blank : B) (xs : List A) (k i : ℕ) (t : List B) (b : B) (z : A) → i < k → i < length xs → t ≡ table k blank (map from (take i xs))
+    → b ≡ from (get_or xs i z) → set t i b ≡ table k blank (map from (take (i + 1) xs))
+table-on {A} {B} from blank xs k i t b z h inside e f =
+    let long : length (map from (take i xs)) ≡ i = length-map (take i xs) from ∙ length-take-le i xs (omega arith) in
+    ap₂ (λ (l : List B) (x : B). set l i x) e f
+    ∙ fill-next k i (map from (take i xs)) blank (from (get_or xs i z)) long h
+    ∙ ap (table k blank) (sym (ap (λ (m : ℕ). map from (take m xs)) (add-one i) ∙ ap (map from) (take-suc xs i z inside) ∙ map-append from (take i xs) (get_or xs i z ∷ [])))
+
 -- `k` is the size of both tables.
 module _ {A B : Type 0} (from : A → B) (blank : B) (xs : List A) (k : ℕ) (size : length xs ≡ k) where
   -- One entry on.
   pub table-next : (i : ℕ) (t : List B) (b : B) (z : A) → i < k → t ≡ table k blank (map from (take i xs)) → b ≡ from (get_or xs i z)
       → set t i b ≡ table k blank (map from (take (i + 1) xs))
-  table-next i t b z h e f =
-      let inside : i < length xs = omega arith in
-      let long : length (map from (take i xs)) ≡ i = length-map (take i xs) from ∙ length-take-le i xs (omega arith) in
-      ap₂ (λ (l : List B) (x : B). set l i x) e f
-      ∙ fill-next k i (map from (take i xs)) blank (from (get_or xs i z)) long h
-      ∙ ap (table k blank) (sym (ap (λ (m : ℕ). map from (take m xs)) (add-one i) ∙ ap (map from) (take-suc xs i z inside) ∙ map-append from (take i xs) (get_or xs i z ∷ [])))
+  table-next i t b z h e f = table-on from blank xs k i t b z h (omega arith) e f
 
   -- All of them, with a count that is cut to the size of the tables.
   pub table-all : (n count i : ℕ) → count ≡ min n k → i ≡ count → table k blank (map from (take i xs)) ≡ table k blank (map from (take n xs))

@@ -7,7 +7,7 @@ ghost use Rattle.records.specs.Jobs.{job_size, job_bytes, job_count, jobs_in, jo
 
 use crate::job::Job;
 use crate::refusal::Refusal;
-use crate::{bytes, judge};
+use crate::{judge, record};
 
 // The jobs of a block: how many they are, and a table that is blank past them.
 #[derive(Clone, Copy)]
@@ -23,34 +23,9 @@ pub fn read_jobs(jobs: &[u8]) -> Result<JobTable, Refusal>
     let size = jobs.len();
     judge::judge_size(size)?;
     let count = size / Job::SIZE;
-    let table = bytes::decode(jobs, count);
+    let table = record::read(jobs);
     judge::judge_jobs(table, count)?;
     Ok(JobTable { count, table })
-}
-
-// The jobs of a block. No entry; it judges nothing: its whole records count, as far as a table has entries, and past them it is blank.
-pub fn read_unjudged(jobs: &[u8]) -> [Job; Job::MOST]
-    ensures { result ≡ job_table (jobs_in (min (job_count jobs.now) most_jobs) jobs.now) }
-{
-    let count = Job::at_most(jobs.len() / Job::SIZE);
-    bytes::decode(jobs, count)
-}
-
-// Writes the first n jobs of a table. No entry; it judges the room alone (12), and for n past 8 it writes all 8 entries.
-pub fn write_unjudged(
-    table: [Job; Job::MOST],
-    n: usize,
-    output: &mut [u8],
-) -> Result<usize, Refusal>
-    ensures { (counted result, output.new) ≡ write_records job_size job_bytes (take n table) output.old }
-{
-    let count = Job::at_most(n);
-    let size = Job::SIZE * count;
-    if output.len() < size {
-        return Err(Refusal::OutputLength);
-    }
-    bytes::encode(table, count, &mut *output);
-    Ok(size)
 }
 
 // Writes the first n jobs of a table as a job block.
@@ -58,5 +33,5 @@ pub fn write_jobs(table: [Job; Job::MOST], n: usize, output: &mut [u8]) -> Resul
     ensures { (counted result, output.new) ≡ write_jobs n table output.old }
 {
     judge::judge_table(table, n)?;
-    write_unjudged(table, n, &mut *output)
+    record::write(&table[..n], &mut *output)
 }

@@ -1,9 +1,12 @@
 // A job and its limits.
 ghost use Rattle.std.specs.Prelude.{◌≡◌, min};
+ghost use Rattle.std.proofs.Common.{rules};
 ghost use Rattle.records.specs.Limits.{most_jobs};
 ghost use Rattle.records.specs.Refusals.{answer};
-ghost use Rattle.records.specs.Jobs.{times_ok, new_job_tests, new_job_answer};
+ghost use Rattle.records.specs.Jobs.{times_ok, new_job_tests, new_job_answer, job_of, job_bytes, blank_job};
+ghost use Rattle.records.specs.RecordLaws.{job-width, job-own};
 
+use crate::record::{FromRecord, ToRecord};
 use crate::refusal::Refusal;
 
 #[derive(Clone, Copy)]
@@ -84,5 +87,53 @@ impl Job {
             period,
             deadline,
         })
+    }
+}
+
+impl ToRecord<{ Job::SIZE }> for Job {
+    ghost bytes = { job_bytes };
+
+    ghost sized = { Prim.search rules };
+
+    ghost width = { job-width };
+
+    fn to_bytes(self) -> [u8; Job::SIZE] {
+        let [cost_high, cost_low] = self.cost.to_be_bytes();
+        let [period_high, period_low] = self.period.to_be_bytes();
+        let [deadline_high, deadline_low] = self.deadline.to_be_bytes();
+        [
+            self.id,
+            self.delay,
+            cost_high,
+            cost_low,
+            period_high,
+            period_low,
+            deadline_high,
+            deadline_low,
+        ]
+    }
+}
+
+impl FromRecord<{ Job::SIZE }> for Job {
+    ghost read = { job_of };
+
+    ghost blank = { blank_job };
+
+    ghost sized = { Prim.search rules };
+
+    ghost own = { job-own };
+
+    fn blank() -> Job {
+        Job::BLANK
+    }
+
+    fn from_bytes(bytes: &[u8; Job::SIZE]) -> Job {
+        Job {
+            id: bytes[0],
+            delay: bytes[1],
+            cost: u16::from_be_bytes([bytes[2], bytes[3]]),
+            period: u16::from_be_bytes([bytes[4], bytes[5]]),
+            deadline: u16::from_be_bytes([bytes[6], bytes[7]]),
+        }
     }
 }

@@ -7,7 +7,7 @@ use borrow.Author.Tests.{leb-true}
 use Rattle.std.proofs.lemmas.Result.{err_from_is_err_and}
 use Rattle.records.specs.Limits.{most_jobs}
 use Rattle.records.specs.Refusals.{Tests, verdict, answer, outcome}
-use Rattle.records.specs.Jobs.{job_size, job_table, size_tests, job_tests, job_count, job_list, read_jobs}
+use Rattle.records.specs.Jobs.{job_size, job_table, size_tests, job_tests, job_count, jobs_in, job_list, read_jobs}
 use Rattle.records.specs.declared.job.Job.{Job}
 use Rattle.records.proofs.Outcomes.{turned_by, passed-by, judged-accepts}
 use Rattle.records.proofs.JobTests.{tests-table}
@@ -39,19 +39,25 @@ module _ (c : In_ok-judge_size) where
       passed-by (size_tests (length block)) c.judge_size.result c.judge_size.ensures (record_tests block) (job_count block) (job_table (job_list block)) (job_table [])
       _ c.in_ok-judge_size.was
 
-pub decode-table-requires : goal.decode-table-requires
-decode-table-requires c = omega (arith, most (goal.at.decode-table-requires c).In_ok-judge_size)
-
 pub judge_jobs-requires : goal.judge_jobs-requires
 judge_jobs-requires c = omega (arith, most (goal.at.judge_jobs-requires c).In_ok-judge_size)
 
 -- What was judged are the jobs of the block.
 module _ (c : After-judge_jobs) where
+  abbrev count : ℕ
+  count = job_count (block (goal.at.After-judge_jobs c).In_ok-judge_size)
+
+  all-read : c.read-table.result ≡ job_table (job_list (block (goal.at.After-judge_jobs c).In_ok-judge_size))
+  all-read =
+      c.read-table.ensures
+      ∙ ap (λ (n : ℕ). job_table (jobs_in n (block (goal.at.After-judge_jobs c).In_ok-judge_size)))
+      (let few = most (goal.at.After-judge_jobs c).In_ok-judge_size in omega arith)
+
   judged : verdict c.judge_jobs.result ≡ answer (record_tests (block (goal.at.After-judge_jobs c).In_ok-judge_size)) tt
   judged =
       c.judge_jobs.ensures
-      ∙ ap (λ (t : List Job). answer (job_tests (job_count (block (goal.at.After-judge_jobs c).In_ok-judge_size)) t) tt) c.decode-table.ensures
-      ∙ ap (λ (t : Tests). answer t tt) (tests-table (job_count (block (goal.at.After-judge_jobs c).In_ok-judge_size)) (job_list (block (goal.at.After-judge_jobs c).In_ok-judge_size)))
+      ∙ ap (λ (t : List Job). answer (job_tests count t) tt) all-read
+      ∙ ap (λ (t : Tests). answer t tt) (tests-table count (job_list (block (goal.at.After-judge_jobs c).In_ok-judge_size)))
 
 pub returns-in_err-judge_jobs : goal.returns-in_err-judge_jobs
 returns-in_err-judge_jobs c =
@@ -63,5 +69,5 @@ returns-in_err-judge_jobs c =
 pub returns : goal.returns
 returns c =
     let s = block (goal.at.returns c).In_ok-judge_size in
-    rw c.decode-table.ensures
+    rw (all-read (goal.at.returns c).After-judge_jobs)
     (sym (on (goal.at.returns c).In_ok-judge_size ∙ passed-by (record_tests s) c.judge_jobs.result (judged (goal.at.returns c).After-judge_jobs) [] (job_count s) (job_table (job_list s)) (job_table []) _ c.in_ok-judge_jobs.was))

@@ -30,6 +30,6 @@ returns c =
     let new = written job_size job_bytes (take a.n a.table) output in
     let few : a.n ≤ most_jobs = leb-true _ _ (judged-accepts (table_tests a.n a.table) c.judge_table.result c.judge_table.ensures _ c.in_ok-judge_table.was).1.0 in
     let all : length a.table ≡ most_jobs = search rules in
-    c.write_unjudged.ensures
+    c.write.ensures
     ∙ ap (λ (m : ℕ). outcome (room_tests (job_size * m) (length output)) (job_size * m) new output) (length-take-le a.n a.table (omega arith))
     ∙ sym (passed-by (table_tests a.n a.table) c.judge_table.result c.judge_table.ensures (room_tests (job_size * a.n) (length output)) (job_size * a.n) new output _ c.in_ok-judge_table.was)
