@@ -1,5 +1,5 @@
 // The search for a finish: some plain steps of the iteration, then steps with an estimate.
-ghost use Rattle.std.specs.Prelude.{◌≡◌, suc, ◌+◌, ◌*◌, ◌/◌, ◌<◌, ◌≤◌, max, leb};
+ghost use Rattle.std.specs.Prelude.{◌≡◌, suc, ◌+◌, ◌*◌, ◌/◌, ◌<◌, ◌≤◌, leb};
 ghost use Rattle.sets.specs.Sets.{has, Collects};
 ghost use Rattle.records.specs.Limits.{most_jobs};
 ghost use Rattle.records.specs.Jobs.{job_at};
@@ -24,26 +24,12 @@ fn short_jobs(jobs: [Job; Job::MOST], longest: u64) -> u8
     ensures { Collects most_jobs (λ i. leb (job_at jobs i).period longest) result }
 {
     let mut set: u8 = 0;
-    let mut i = 0;
-    while i < Job::MOST {
-        let job = jobs[i];
+    for (i, job) in jobs.iter().enumerate() {
         if job.period as u64 <= longest {
-            let more = sets::insert(set, i);
-            set = more;
+            set = sets::insert(set, i);
         }
-        i += 1;
     }
     set
-}
-
-// The later of two times.
-fn later(a: u64, b: u64) -> u64
-    ensures { result ≡ max a b }
-{
-    if a < b {
-        return b;
-    }
-    a
 }
 
 // The iteration from a start up to a limit, for the jobs above in two sets: between two steps those with short periods count by what
@@ -74,7 +60,7 @@ fn climb(
             }
             return 0;
         }
-        t = later(next, (part * WHOLE + carry as u64) / spare);
+        t = next.max((part * WHOLE + carry as u64) / spare);
     }
     0
 }
@@ -94,7 +80,7 @@ fn far_time(
     let long = sets::rest(above, short_jobs(jobs, start / SHORT_PART));
     let short = sets::rest(above, long);
     let capacity = capacity::capacity_of(jobs, utilisations, short);
-    let spare = later(1, capacity.spare);
+    let spare = capacity.spare.max(1);
     climb(jobs, long, short, spare, capacity.carry, own, limit, start)
 }
 
@@ -120,10 +106,9 @@ fn time_within(
         }
         t = (own * WHOLE + carry as u64) / spare;
     }
-    t = later(t, before as u64);
+    t = t.max(before as u64);
     let late = limit as u64 + 1;
-    let mut step: u32 = 0;
-    while step < PLAIN_STEPS {
+    for _ in 0..PLAIN_STEPS {
         if late <= t {
             return 0;
         }
@@ -136,7 +121,6 @@ fn time_within(
             return 0;
         }
         t = next;
-        step += 1;
     }
     far_time(jobs, utilisations, above, own, limit, t)
 }

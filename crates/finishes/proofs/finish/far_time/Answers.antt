@@ -1,6 +1,7 @@
 use Prim.Native.Nat.{ℕ, suc, ◌+◌, ◌*◌, ◌/◌, max}
 use mathlib.Core.Path.{◌≡◌, ◌∙◌, ap, ap₂, fun_ext}
 use native.Mathlib.Omega.{arith}
+use Rattle.std.proofs.Math.Nat.{max_comm}
 use lib.Dec.{leb}
 use lib.ListN.{length}
 use Rattle.sets.specs.Sets.{has}
@@ -12,9 +13,6 @@ use Rattle.response.proofs.Easier.{interference-same, interference-split}
 use Rattle.finishes.proofs.Loops.{long-part, short-part, spare-same, carried_same}
 use borrow.Author.Rules.{rules}
 use Rattle.finishes.proofs.finish.far_time.Goals as goal
-
-pub climb-requires : goal.climb-requires
-climb-requires c = (omega (arith, c.later-spare.ensures), search rules, search rules)
 
 pub returns : goal.returns
 unfolding far_time estimate
@@ -35,15 +33,15 @@ returns c =
       interference-split jobs (has a.above) (λ i. leb (job_at jobs i).period longest) t,
     ) in
     let w : Table = record { jobs = a.jobs; utilisations = a.utilisations } in
-    let spare : c.later-spare.result ≡ max 1 (spare_of utilisations (short_of jobs (has a.above) longest)) =
-    c.later-spare.ensures ∙ ap (max 1) (c.capacity_of-capacity.ensures.0 ∙ spare-same utilisations _ _ (λ i l. short i (omega arith))) in
+    let spare : c.max-spare.result ≡ max 1 (spare_of utilisations (short_of jobs (has a.above) longest)) =
+    c.max-spare.ensures ∙ max_comm c.capacity_of-capacity.result.spare 1 ∙ ap (max 1) (c.capacity_of-capacity.ensures.0 ∙ spare-same utilisations _ _ (λ i l. short i (omega arith))) in
     let carry : c.capacity_of-capacity.result.carry ≡ carried w (short_of jobs (has a.above) longest) =
     c.capacity_of-capacity.ensures.2 ∙ carried_same w _ _ (λ i l. short i (omega arith)) in
-    let g : (t : ℕ) → ((a.own + interference jobs (has c.rest-long.result) t) * whole + c.capacity_of-capacity.result.carry) / c.later-spare.result ≡ estimate w (has a.above) longest a.own t =
+    let g : (t : ℕ) → ((a.own + interference jobs (has c.rest-long.result) t) * whole + c.capacity_of-capacity.result.carry) / c.max-spare.result ≡ estimate w (has a.above) longest a.own t =
     λ t. ap₂ (λ (x y : ℕ). x / y) (ap₂ (λ (x y : ℕ). (a.own + x) * whole + y) (interference-same jobs _ (long_of jobs (has a.above) longest) t (λ i l. long i (omega arith))) carry) spare in
     let found : c.climb.result
     ≡ climb (λ t. a.own + interference jobs (has c.rest-long.result) t + interference jobs (has c.rest-short.result) t)
-    (λ t. ((a.own + interference jobs (has c.rest-long.result) t) * whole + c.capacity_of-capacity.result.carry) / c.later-spare.result) a.limit
+    (λ t. ((a.own + interference jobs (has c.rest-long.result) t) * whole + c.capacity_of-capacity.result.carry) / c.max-spare.result) a.limit
     (suc a.limit) a.start =
     c.climb.ensures.0 in
     (found ∙ ap₂ (λ (f g : ℕ → ℕ). climb f g a.limit (suc a.limit) a.start) (fun_ext f) (fun_ext g), c.climb.ensures.1, c.climb.ensures.2)

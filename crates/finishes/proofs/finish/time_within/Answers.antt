@@ -14,14 +14,13 @@ returns-then-spare-eq0 c =
     let a = c.args in
     (sym (time-full (table a.jobs a.utilisations) (has a.above) a.spare a.carry a.own a.limit a.before c.if-own-ne0.true c.if-spare-eq0.true), omega arith, λ e. absurd (omega arith))
 
-pub loop-step-init : goal.loop-step-init
+pub loop-init : goal.loop-init
 unfolding time_from
-loop-step-init c =
-    let l = c.later-t in
+loop-init c =
+    let l = c.max-t in
     let a = c.args in
     let w = table a.jobs a.utilisations in
     let start : ℕ → ℕ = time_from w (has a.above) a.own a.limit in (
-      omega arith,
       elim c.if-own-ne0.branch [ then-own-ne0+else-spare-eq0 v ↦ time-start w (has a.above) a.spare a.carry a.own a.limit a.before v.if-own-ne0.true v.if-spare-eq0.false ∙ sym (ap start (l.ensures ∙ ap (λ (x : ℕ). max x a.before) v.t-is)) | else-own-ne0 v ↦ time-idle w (has a.above) a.spare a.carry a.own a.limit a.before v.if-own-ne0.false ∙ sym (ap start (l.ensures ∙ ap (λ (x : ℕ). max x a.before) v.t-is)) ],
       omega (arith, l.ensures),
     )
@@ -29,16 +28,16 @@ loop-step-init c =
 pub returns-then-late-t : goal.returns-then-late-t
 unfolding far_time
 returns-then-late-t c =
-    let l = c.loop-step in
+    let l = c.loop in
     let a = c.args in
     let f : ℕ → ℕ = λ x. a.own + interference a.jobs (has a.above) x in
     let past : a.limit < l.t = omega (arith, c.if-late-t.true) in
-    (sym (l.invariant.1 ∙ ap (far_time (table a.jobs a.utilisations) (has a.above) a.own a.limit) (steps-past f a.limit (plain_steps - l.step) past) ∙ loop-past f _ a.limit past), omega arith, λ e. absurd (omega arith))
+    (sym (l.invariant.0 ∙ ap (far_time (table a.jobs a.utilisations) (has a.above) a.own a.limit) (steps-past f a.limit (plain_steps - l.counter) past) ∙ loop-past f _ a.limit past), omega arith, λ e. absurd (omega arith))
 
 -- In a turn: the demand at t.
 module _ (c : After-interference) where
   abbrev t : ℕ
-  t = c.loop-step.t
+  t = c.loop.t
 
   abbrev limit : ℕ
   limit = c.args.limit
@@ -58,39 +57,38 @@ module _ (c : After-interference) where
 pub returns-then-next-t-2 : goal.returns-then-next-t-2
 unfolding far_time
 returns-then-next-t-2 c =
-    let l = c.loop-step in
+    let l = c.loop in
     let e : f (goal.at.returns-then-next-t-2 c).After-interference (t (goal.at.returns-then-next-t-2 c).After-interference) ≡ t (goal.at.returns-then-next-t-2 c).After-interference = sym (next (goal.at.returns-then-next-t-2 c).After-interference) ∙ c.if-next-t-2.true in
-    (sym (l.invariant.1 ∙ ap (far (goal.at.returns-then-next-t-2 c).After-interference) (steps-end (f (goal.at.returns-then-next-t-2 c).After-interference) (limit (goal.at.returns-then-next-t-2 c).After-interference) (plain_steps - l.step) (omega arith)) ∙ loop-found (f (goal.at.returns-then-next-t-2 c).After-interference) _ (limit (goal.at.returns-then-next-t-2 c).After-interference) (reach (goal.at.returns-then-next-t-2 c).After-interference) e), reach (goal.at.returns-then-next-t-2 c).After-interference, λ q. l.invariant.2)
+    (sym (l.invariant.0 ∙ ap (far (goal.at.returns-then-next-t-2 c).After-interference) (steps-end (f (goal.at.returns-then-next-t-2 c).After-interference) (limit (goal.at.returns-then-next-t-2 c).After-interference) (plain_steps - l.counter) (omega arith)) ∙ loop-found (f (goal.at.returns-then-next-t-2 c).After-interference) _ (limit (goal.at.returns-then-next-t-2 c).After-interference) (reach (goal.at.returns-then-next-t-2 c).After-interference) e), reach (goal.at.returns-then-next-t-2 c).After-interference, λ q. l.invariant.1)
 
 pub returns-then-next-t : goal.returns-then-next-t
 unfolding far_time
 returns-then-next-t c =
-    let l = c.loop-step in
+    let l = c.loop in
     let h : f (goal.at.returns-then-next-t c).After-interference (t (goal.at.returns-then-next-t c).After-interference) ≤ t (goal.at.returns-then-next-t c).After-interference = omega (arith, next (goal.at.returns-then-next-t c).After-interference, c.if-next-t.true) in
-    (sym (l.invariant.1 ∙ ap (far (goal.at.returns-then-next-t c).After-interference) (steps-end (f (goal.at.returns-then-next-t c).After-interference) (limit (goal.at.returns-then-next-t c).After-interference) (plain_steps - l.step) h) ∙ loop-falls (f (goal.at.returns-then-next-t c).After-interference) _ (limit (goal.at.returns-then-next-t c).After-interference) (reach (goal.at.returns-then-next-t c).After-interference) h (λ e. c.if-next-t-2.false (next (goal.at.returns-then-next-t c).After-interference ∙ e))), omega arith, λ e. absurd (omega arith))
+    (sym (l.invariant.0 ∙ ap (far (goal.at.returns-then-next-t c).After-interference) (steps-end (f (goal.at.returns-then-next-t c).After-interference) (limit (goal.at.returns-then-next-t c).After-interference) (plain_steps - l.counter) h) ∙ loop-falls (f (goal.at.returns-then-next-t c).After-interference) _ (limit (goal.at.returns-then-next-t c).After-interference) (reach (goal.at.returns-then-next-t c).After-interference) h (λ e. c.if-next-t-2.false (next (goal.at.returns-then-next-t c).After-interference ∙ e))), omega arith, λ e. absurd (omega arith))
 
-pub loop-step-preserved : goal.loop-step-preserved
-loop-step-preserved c =
-    let l = c.loop-step in
-    let left : plain_steps - l.step ≡ suc (plain_steps - (l.step + 1)) = omega (arith, c.loop-step-test.true) in
-    let up : t (goal.at.loop-step-preserved c).After-interference < f (goal.at.loop-step-preserved c).After-interference (t (goal.at.loop-step-preserved c).After-interference) = omega (arith, next (goal.at.loop-step-preserved c).After-interference, c.if-next-t.false) in (
-      omega (arith, c.loop-step-test.true),
-      l.invariant.1
-          ∙ ap (far (goal.at.loop-step-preserved c).After-interference)
-          (ap (λ (n : ℕ). steps (f (goal.at.loop-step-preserved c).After-interference) (limit (goal.at.loop-step-preserved c).After-interference) n (t (goal.at.loop-step-preserved c).After-interference)) left ∙ steps_on (f (goal.at.loop-step-preserved c).After-interference) (limit (goal.at.loop-step-preserved c).After-interference) (plain_steps - (l.step + 1)) (reach (goal.at.loop-step-preserved c).After-interference) up
-          ∙ sym (ap (steps (f (goal.at.loop-step-preserved c).After-interference) (limit (goal.at.loop-step-preserved c).After-interference) (plain_steps - (l.step + 1))) (next (goal.at.loop-step-preserved c).After-interference))),
-      omega (arith, next (goal.at.loop-step-preserved c).After-interference, l.invariant.2),
+pub loop-preserved : goal.loop-preserved
+loop-preserved c =
+    let l = c.loop in
+    let left : plain_steps - l.counter ≡ suc (plain_steps - (l.counter + 1)) = omega (arith, c.loop-test.true) in
+    let up : t (goal.at.loop-preserved c).After-interference < f (goal.at.loop-preserved c).After-interference (t (goal.at.loop-preserved c).After-interference) = omega (arith, next (goal.at.loop-preserved c).After-interference, c.if-next-t.false) in (
+      l.invariant.0
+          ∙ ap (far (goal.at.loop-preserved c).After-interference)
+          (ap (λ (n : ℕ). steps (f (goal.at.loop-preserved c).After-interference) (limit (goal.at.loop-preserved c).After-interference) n (t (goal.at.loop-preserved c).After-interference)) left ∙ steps_on (f (goal.at.loop-preserved c).After-interference) (limit (goal.at.loop-preserved c).After-interference) (plain_steps - (l.counter + 1)) (reach (goal.at.loop-preserved c).After-interference) up
+          ∙ sym (ap (steps (f (goal.at.loop-preserved c).After-interference) (limit (goal.at.loop-preserved c).After-interference) (plain_steps - (l.counter + 1))) (next (goal.at.loop-preserved c).After-interference))),
+      omega (arith, next (goal.at.loop-preserved c).After-interference, l.invariant.1),
     )
 
 pub returns : goal.returns
 returns c =
-    let l = c.loop-step in
+    let l = c.loop in
     let a = c.args in
     let f : ℕ → ℕ = λ x. a.own + interference a.jobs (has a.above) x in
-    let none : plain_steps - l.step ≡ 0 = omega (arith, c.loop-step-test.false) in
+    let none : plain_steps - l.counter ≡ 0 = omega (arith, c.loop-test.false) in
     let found : c.far_time.result ≡ far_time (table a.jobs a.utilisations) (has a.above) a.own a.limit l.t = c.far_time.ensures.0 in (
       found
-          ∙ sym (l.invariant.1 ∙ ap (far_time (table a.jobs a.utilisations) (has a.above) a.own a.limit) (ap (λ (n : ℕ). steps f a.limit n l.t) none ∙ steps-none f a.limit l.t)),
+          ∙ sym (l.invariant.0 ∙ ap (far_time (table a.jobs a.utilisations) (has a.above) a.own a.limit) (ap (λ (n : ℕ). steps f a.limit n l.t) none ∙ steps-none f a.limit l.t)),
       c.far_time.ensures.1,
-      λ e. omega (arith, l.invariant.2, c.far_time.ensures.2 e),
+      λ e. omega (arith, l.invariant.1, c.far_time.ensures.2 e),
     )

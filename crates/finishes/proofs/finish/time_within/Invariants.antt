@@ -11,11 +11,7 @@ abbrev pub table : List Job → List ℕ → Table
 table jobs utilisations = record { jobs = jobs; utilisations = utilisations }
 
 -- What is sought is what is found from t on after the plain steps that are left, and t is not before `before`.
-abbrev pub invariant-loop-step : goal.invariant-loop-step
-invariant-loop-step l = (l.step ≤ plain_steps)
-    × (time_for (table l.jobs l.utilisations) (has l.above) l.spare l.carry l.own l.limit l.before
-    ≡ far_time (table l.jobs l.utilisations) (has l.above) l.own l.limit (steps (λ x. l.own + interference l.jobs (has l.above) x) l.limit (plain_steps - l.step) l.t))
+abbrev pub invariant-loop : goal.invariant-loop
+invariant-loop l = (time_for (table l.jobs l.utilisations) (has l.above) l.spare l.carry l.own l.limit l.before
+    ≡ far_time (table l.jobs l.utilisations) (has l.above) l.own l.limit (steps (λ x. l.own + interference l.jobs (has l.above) x) l.limit (plain_steps - l.counter) l.t))
     × (l.before ≤ l.t)
-
-abbrev pub decreases-loop-step : goal.decreases-loop-step
-decreases-loop-step l = plain_steps - l.step
