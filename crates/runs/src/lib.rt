@@ -2,7 +2,7 @@
 // is one of the two bounds.
 #![tactic(auto)]
 
-ghost use Rattle.std.specs.Prelude.{◌≡◌, ◌-◌, ◌*◌, ◌^◌, ◌<◌, ◌≤◌};
+ghost use Rattle.std.specs.Prelude.{◌≡◌, ◌*◌, ◌^◌, ◌<◌, ◌≤◌};
 ghost use Rattle.sets.specs.Sets.{has};
 ghost use Rattle.response.specs.Demand.{ceil_div};
 ghost use Rattle.finishes.specs.Finishes.{whole};
@@ -20,11 +20,8 @@ fn runs_on(spare: u64, quantum: u8, others: u16, job: Job) -> bool
     requires { spare ≤ whole }
     ensures { result ≡ runs_on spare quantum others job }
 {
-    if quantum == 0 {
-        return false;
-    }
     let held = (job.period as u64) * (quantum as u64) * spare;
-    held < (job.cost as u64) * (quantum as u64 + others as u64) * WHOLE
+    0 < quantum && held < (job.cost as u64) * (quantum as u64 + others as u64) * WHOLE
 }
 
 // The cycles of so much work: the work divided by the quantum, rounded up; none without a quantum.
@@ -48,24 +45,11 @@ fn own_demand(cost: u32, count: u32, quantum: u8, others: u16) -> u64
     work as u64 + (cycles as u64) * (others as u64)
 }
 
-// a less b; 0 where b is more.
-fn less(a: u32, b: u32) -> u32
-    ensures { result ≡ a - b }
-{
-    if a < b {
-        return 0;
-    }
-    a - b
-}
-
 // Whether a response is the one that is sought; none is, where that is 0.
 fn is_sought(sought: u16, response: u32) -> bool
     ensures { result ≡ is_sought sought response }
 {
-    if sought == 0 {
-        return false;
-    }
-    response == sought as u32
+    0 < sought && response == sought as u32
 }
 
 // The largest response of a job up to the first instance that finishes by its next release; 0 where a finish does not exist by the
@@ -90,11 +74,10 @@ fn largest_response(
     let delay = job.delay as u32;
     let mut largest: u32 = 0;
     let mut before: u32 = 0;
-    let mut instance: u32 = 0;
-    while instance < INSTANCES {
+    for instance in 0..INSTANCES {
         let release = instance * period;
         let own = own_demand(cost, instance + 1, quantum, others);
-        let limit = less(release + deadline, delay);
+        let limit = (release + deadline).saturating_sub(delay);
         let finish = finish::time_for(jobs, utilisations, above, spare, carry, own, limit, before);
         if finish == 0 {
             return 0;
@@ -103,14 +86,11 @@ fn largest_response(
         if is_sought(sought, response) {
             return (instance + 1) as u16;
         }
-        if largest < response {
-            largest = response;
-        }
+        largest = largest.max(response);
         if finish + delay <= release + period {
             return largest as u16;
         }
         before = finish;
-        instance += 1;
     }
     0
 }

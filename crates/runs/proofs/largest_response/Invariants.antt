@@ -15,9 +15,6 @@ found jobs utilisations above spare carry quantum others cost period deadline de
 -- What is sought is what the run from this instance on finds; each instance so far has finished, its delay counted, after the release
 -- of the next.
 abbrev pub invariant-loop-instance : goal.invariant-loop-instance
-invariant-loop-instance l = (l.instance ≤ most_instances) × (l.largest ≤ l.deadline) × (l.instance * l.period ≤ l.before + l.delay)
+invariant-loop-instance l = (l.largest ≤ l.deadline) × (l.instance * l.period ≤ l.before + l.delay)
     × (run_by (found l.jobs l.utilisations l.above l.spare l.carry l.quantum l.others l.cost l.period l.deadline l.delay) l.delay l.period l.sought most_instances 0 0 0
     ≡ run_by (found l.jobs l.utilisations l.above l.spare l.carry l.quantum l.others l.cost l.period l.deadline l.delay) l.delay l.period l.sought (most_instances - l.instance) l.instance l.before l.largest)
-
-abbrev pub decreases-loop-instance : goal.decreases-loop-instance
-decreases-loop-instance l = most_instances - l.instance
