@@ -50,10 +50,7 @@ pub fn lesser(first: u16, second: u16) -> u16
     if first == 0 {
         return second;
     }
-    if second < first {
-        return second;
-    }
-    first
+    first.min(second)
 }
 
 impl Workload {
