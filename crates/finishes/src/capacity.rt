@@ -40,6 +40,8 @@ pub struct Capacity {
 }
 
 // The same, in one pass over the places. No entry; it judges nothing: its contract says what any numbers give.
+// It stays out of line: within the search it takes registers from the steps, and plans take longer.
+#[inline(never)]
 pub fn capacity_of(jobs: [Job; Job::MOST], utilisations: [u32; Job::MOST], set: u8) -> Capacity
     ensures { (result.spare ≡ spare_of utilisations (has set)) × (result.spare ≤ whole) × (result.carry ≡ carried (record { jobs = jobs; utilisations = utilisations }) (has set)) }
 {
