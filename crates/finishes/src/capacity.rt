@@ -32,6 +32,13 @@ pub fn utilisations_of(jobs: [Job; Job::MOST]) -> [u32; Job::MOST]
     utilisations
 }
 
+// The jobs of a table and the utilisation of each.
+#[derive(Clone, Copy)]
+pub struct Table {
+    pub jobs: [Job; Job::MOST],
+    pub utilisations: [u32; Job::MOST],
+}
+
 // What a set of jobs leaves of the processor, and what their delays add at least to their work, in parts of a tick.
 #[derive(Clone, Copy)]
 pub struct Capacity {
@@ -39,23 +46,25 @@ pub struct Capacity {
     pub carry: u32,
 }
 
-// The same, in one pass over the places. No entry; it judges nothing: its contract says what any numbers give.
-// It stays out of line: within the search it takes registers from the steps, and plans take longer.
-#[inline(never)]
-pub fn capacity_of(jobs: [Job; Job::MOST], utilisations: [u32; Job::MOST], set: u8) -> Capacity
-    ensures { (result.spare ≡ spare_of utilisations (has set)) × (result.spare ≤ whole) × (result.carry ≡ carried (record { jobs = jobs; utilisations = utilisations }) (has set)) }
-{
-    let mut taken: u64 = 0;
-    let mut carry: u64 = 0;
-    for (i, job) in jobs.iter().enumerate() {
-        if sets::contains(set, i) {
-            let parts = utilisations[i] as u64;
-            taken += parts;
-            carry += (job.delay as u64) * parts;
+impl Table {
+    // What a set leaves and what its delays add, in one pass over the places. No entry; it judges nothing: its contract says what any
+    // numbers give. It stays out of line: within the search it takes registers from the steps, and plans take longer.
+    #[inline(never)]
+    pub fn capacity_of(self, set: u8) -> Capacity
+        ensures { (result.spare ≡ spare_of self.utilisations (has set)) × (result.spare ≤ whole) × (result.carry ≡ carried self (has set)) }
+    {
+        let mut taken: u64 = 0;
+        let mut carry: u64 = 0;
+        for (i, job) in self.jobs.iter().enumerate() {
+            if sets::contains(set, i) {
+                let parts = self.utilisations[i] as u64;
+                taken += parts;
+                carry += (job.delay as u64) * parts;
+            }
         }
-    }
-    Capacity {
-        spare: WHOLE.saturating_sub(taken),
-        carry: carry.min(MOST_CARRIED) as u32,
+        Capacity {
+            spare: WHOLE.saturating_sub(taken),
+            carry: carry.min(MOST_CARRIED) as u32,
+        }
     }
 }

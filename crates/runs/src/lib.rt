@@ -8,8 +8,7 @@ ghost use Rattle.response.specs.Demand.{ceil_div};
 ghost use Rattle.finishes.specs.Finishes.{whole};
 ghost use Rattle.runs.specs.Runs.{own_demand, is_sought, largest_by, runs_on, run_for};
 
-use finishes::capacity::WHOLE;
-use finishes::{capacity, finish};
+use finishes::capacity::{Capacity, Table, WHOLE};
 use records::job::Job;
 
 // The most instances that a bound goes over.
@@ -56,17 +55,15 @@ fn is_sought(sought: u16, response: u32) -> bool
 // instance's deadline, or where the last instance still runs past its next release. Each finish counts with the job's delay. Where a
 // response is sought, the number of instances up to the first that has it.
 fn largest_response(
-    jobs: [Job; Job::MOST],
-    utilisations: [u32; Job::MOST],
+    table: Table,
     above: u8,
-    spare: u64,
-    carry: u32,
+    left: Capacity,
     quantum: u8,
     others: u16,
     job: Job,
     sought: u16,
 ) -> u16
-    ensures { result ≡ largest_by (record { jobs = jobs; utilisations = utilisations }) (has above) spare carry quantum others job sought }
+    ensures { result ≡ largest_by table (has above) left.spare left.carry quantum others job sought }
 {
     let cost = job.cost as u32;
     let period = job.period as u32;
@@ -78,7 +75,7 @@ fn largest_response(
         let release = instance * period;
         let own = own_demand(cost, instance + 1, quantum, others);
         let limit = (release + deadline).saturating_sub(delay);
-        let finish = finish::time_for(jobs, utilisations, above, spare, carry, own, limit, before);
+        let finish = table.time_for(above, left, own, limit, before);
         if finish == 0 {
             return 0;
         }
@@ -98,30 +95,12 @@ fn largest_response(
 // The run of a job beside a sum of other quanta and below a set: its largest response, which is one of the two bounds; or, where a response
 // is sought, the number of its instances up to the first that has it. It is no entry and judges nothing: its contract says what any numbers
 // give.
-pub fn run_for(
-    jobs: [Job; Job::MOST],
-    utilisations: [u32; Job::MOST],
-    above: u8,
-    quantum: u8,
-    others: u16,
-    job: Job,
-    sought: u16,
-) -> u16
-    ensures { result ≡ run_for (record { jobs = jobs; utilisations = utilisations }) (has above) quantum others job sought }
+pub fn run_for(table: Table, above: u8, quantum: u8, others: u16, job: Job, sought: u16) -> u16
+    ensures { result ≡ run_for table (has above) quantum others job sought }
 {
-    let capacity = capacity::capacity_of(jobs, utilisations, above);
-    if runs_on(capacity.spare, quantum, others, job) {
+    let left = table.capacity_of(above);
+    if runs_on(left.spare, quantum, others, job) {
         return 0;
     }
-    largest_response(
-        jobs,
-        utilisations,
-        above,
-        capacity.spare,
-        capacity.carry,
-        quantum,
-        others,
-        job,
-        sought,
-    )
+    largest_response(table, above, left, quantum, others, job, sought)
 }

@@ -9,7 +9,6 @@ use Rattle.finishes.proofs.Climbing.{time-answered}
 use Rattle.runs.specs.Runs.{own_demand, finish_by, is_sought, run_by}
 use Rattle.runs.proofs.FoundRuns.{turn-none, turn-hit, turn-closed, turn-open, turn-out}
 use borrow.Author.Rules.{rules}
-use Rattle.runs.proofs.largest_response.Invariants.{found}
 use Rattle.runs.proofs.largest_response.Goals as goal
 use Rattle.runs.proofs.largest_response.Goals.{After-time_for-finish, After-is_sought}
 
@@ -27,7 +26,7 @@ module _ (c : After-time_for-finish) where
   abbrev finishes : ℕ → ℕ → ℕ
   finishes =
       let a = c.args in
-      found a.jobs a.utilisations a.above a.spare a.carry a.quantum a.others job.cost job.period job.deadline job.delay
+      finish_by a.table (has a.above) a.left.spare a.left.carry a.quantum a.others job.cost job.period job.deadline job.delay
 
   one_more : instance + 1 ≡ suc instance
   one_more = omega arith
@@ -41,7 +40,7 @@ module _ (c : After-time_for-finish) where
       let a = c.args in
       let own : c.own_demand-own.result ≡ own_demand a.quantum a.others (suc instance * job.cost) =
       c.own_demand-own.ensures ∙ ap (λ (n : ℕ). own_demand a.quantum a.others (n * job.cost)) one_more in
-      time-answered (record { jobs = a.jobs; utilisations = a.utilisations }) (has a.above) a.spare a.carry before
+      time-answered a.table (has a.above) a.left.spare a.left.carry before
       c.time_for-finish.ensures.0 (search rules) own c.saturating_sub-limit.ensures
 
 pub returns-then-finish-eq0 : goal.returns-then-finish-eq0
@@ -105,5 +104,5 @@ returns c =
     let l = c.loop-instance in
     let e : most_instances - l.instance ≡ 0 = omega (arith, c.loop-instance-test.false) in
     let a = c.args in
-    let f = found a.jobs a.utilisations a.above a.spare a.carry a.quantum a.others a.job.cost a.job.period a.job.deadline a.job.delay in
+    let f = finish_by a.table (has a.above) a.left.spare a.left.carry a.quantum a.others a.job.cost a.job.period a.job.deadline a.job.delay in
     sym (l.invariant.2 ∙ ap (λ (n : ℕ). run_by f a.job.delay a.job.period a.sought n l.instance l.before l.largest) e ∙ turn-out f a.job.delay a.job.period a.sought l.instance l.before l.largest)

@@ -12,8 +12,8 @@ use Rattle.records.specs.Limits.{most_jobs}
 use Rattle.records.specs.Jobs.{job_at}
 use Rattle.finishes.specs.Finishes.{load, spare_of, delays_of, most_carried}
 use borrow.Author.Rules.{rules}
-use Rattle.finishes.proofs.capacity.capacity_of.Goals as goal
-use Rattle.finishes.proofs.capacity.capacity_of.Goals.{After-loop-i, then-contains, else-contains}
+use Rattle.finishes.proofs.capacity.Table.capacity_of.Goals as goal
+use Rattle.finishes.proofs.capacity.Table.capacity_of.Goals.{After-loop-i, then-contains, else-contains}
 
 pub loop-i-init : goal.loop-i-init
 loop-i-init c = (sym (over_none _ _), sym (over_none _ _), omega arith, omega arith)
@@ -25,11 +25,11 @@ pub loop-i-preserved : goal.loop-i-preserved
 loop-i-preserved c =
     let a = c.args in
     let l = c.loop-i in
-    let f : ℕ → ℕ = λ k. get_or a.utilisations k 0 in
-    let g : ℕ → ℕ = λ k. (job_at a.jobs k).delay * get_or a.utilisations k 0 in
-    let s : Fits w32 (get_or a.utilisations l.i 0) = search rules in
+    let f : ℕ → ℕ = λ k. get_or a.self.utilisations k 0 in
+    let g : ℕ → ℕ = λ k. (job_at a.self.jobs k).delay * get_or a.self.utilisations k 0 in
+    let s : Fits w32 (get_or a.self.utilisations l.i 0) = search rules in
     elim c.if-contains.branch [
-      | then-contains w ↦ (let fits = carry-fits (job_at a.jobs l.i).delay (get_or a.utilisations l.i 0) (search rules) (omega arith) in
+      | then-contains w ↦ (let fits = carry-fits (job_at a.self.jobs l.i).delay (get_or a.self.utilisations l.i 0) (search rules) (omega arith) in
           (w.taken-is ∙ omega (arith, over-in l.i (has a.set) f c.contains.ensures w.if-contains.true, l.invariant.0), w.carry-is ∙ omega (arith, over-in l.i (has a.set) g c.contains.ensures w.if-contains.true, l.invariant.1), omega (arith, w.taken-is, l.invariant.2), omega (arith, w.carry-is, l.invariant.3, fits)))
       | else-contains w ↦ (w.taken-is ∙ omega (arith, over-out l.i (has a.set) f c.contains.ensures w.if-contains.false, l.invariant.0), w.carry-is ∙ omega (arith, over-out l.i (has a.set) g c.contains.ensures w.if-contains.false, l.invariant.1), omega (arith, w.taken-is, l.invariant.2), omega (arith, w.carry-is, l.invariant.3))
     ]
@@ -37,17 +37,17 @@ loop-i-preserved c =
 -- After the loop: both sums.
 module _ (c : After-loop-i) where
   sums : let a = c.args in let l = c.loop-i in
-      (l.taken ≡ load a.utilisations (has a.set)) × (l.carry ≡ delays_of (record { jobs = a.jobs; utilisations = a.utilisations }) (has a.set))
+      (l.taken ≡ load a.self.utilisations (has a.set)) × (l.carry ≡ delays_of a.self (has a.set))
   unfolding load delays_of
   sums =
       let a = c.args in
       let l = c.loop-i in
-      let eight : length a.jobs ≡ most_jobs = search rules in
-      let as_many : length a.utilisations ≡ most_jobs = search rules in
-      let e : l.i ≡ length a.jobs = omega arith in
-      let o : l.i ≡ length a.utilisations = omega arith in (
-        l.invariant.0 ∙ ap (λ (n : ℕ). sum_over n (has a.set) (λ k. get_or a.utilisations k 0)) o,
-        l.invariant.1 ∙ ap (λ (n : ℕ). sum_over n (has a.set) (λ k. (job_at a.jobs k).delay * get_or a.utilisations k 0)) e,
+      let eight : length a.self.jobs ≡ most_jobs = search rules in
+      let as_many : length a.self.utilisations ≡ most_jobs = search rules in
+      let e : l.i ≡ length a.self.jobs = omega arith in
+      let o : l.i ≡ length a.self.utilisations = omega arith in (
+        l.invariant.0 ∙ ap (λ (n : ℕ). sum_over n (has a.set) (λ k. get_or a.self.utilisations k 0)) o,
+        l.invariant.1 ∙ ap (λ (n : ℕ). sum_over n (has a.set) (λ k. (job_at a.self.jobs k).delay * get_or a.self.utilisations k 0)) e,
       )
 
 pub returns : goal.returns

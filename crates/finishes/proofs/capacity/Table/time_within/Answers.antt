@@ -5,23 +5,22 @@ use Rattle.sets.specs.Sets.{has}
 use Rattle.response.specs.Demand.{interference}
 use Rattle.finishes.specs.Finishes.{steps, plain_steps, far_time, time_from}
 use Rattle.finishes.proofs.Climbing.{loop-past, loop-found, loop-falls, steps-none, steps-past, steps-end, steps_on, time-idle, time-full, time-start}
-use Rattle.finishes.proofs.finish.time_within.Invariants.{table}
-use Rattle.finishes.proofs.finish.time_within.Goals as goal
-use Rattle.finishes.proofs.finish.time_within.Goals.{After-interference, then-own-ne0+else-spare-eq0, else-own-ne0}
+use Rattle.finishes.proofs.capacity.Table.time_within.Goals as goal
+use Rattle.finishes.proofs.capacity.Table.time_within.Goals.{After-interference, then-own-ne0+else-left-eq0, else-own-ne0}
 
-pub returns-then-spare-eq0 : goal.returns-then-spare-eq0
-returns-then-spare-eq0 c =
+pub returns-then-left-eq0 : goal.returns-then-left-eq0
+returns-then-left-eq0 c =
     let a = c.args in
-    (sym (time-full (table a.jobs a.utilisations) (has a.above) a.spare a.carry a.own a.limit a.before c.if-own-ne0.true c.if-spare-eq0.true), omega arith, λ e. absurd (omega arith))
+    (sym (time-full a.self (has a.above) a.left.spare a.left.carry a.own a.limit a.before c.if-own-ne0.true c.if-left-eq0.true), omega arith, λ e. absurd (omega arith))
 
 pub loop-init : goal.loop-init
 unfolding time_from
 loop-init c =
     let l = c.max-t in
     let a = c.args in
-    let w = table a.jobs a.utilisations in
+    let w = a.self in
     let start : ℕ → ℕ = time_from w (has a.above) a.own a.limit in (
-      elim c.if-own-ne0.branch [ then-own-ne0+else-spare-eq0 v ↦ time-start w (has a.above) a.spare a.carry a.own a.limit a.before v.if-own-ne0.true v.if-spare-eq0.false ∙ sym (ap start (l.ensures ∙ ap (λ (x : ℕ). max x a.before) v.t-is)) | else-own-ne0 v ↦ time-idle w (has a.above) a.spare a.carry a.own a.limit a.before v.if-own-ne0.false ∙ sym (ap start (l.ensures ∙ ap (λ (x : ℕ). max x a.before) v.t-is)) ],
+      elim c.if-own-ne0.branch [ then-own-ne0+else-left-eq0 v ↦ time-start w (has a.above) a.left.spare a.left.carry a.own a.limit a.before v.if-own-ne0.true v.if-left-eq0.false ∙ sym (ap start (l.ensures ∙ ap (λ (x : ℕ). max x a.before) v.t-is)) | else-own-ne0 v ↦ time-idle w (has a.above) a.left.spare a.left.carry a.own a.limit a.before v.if-own-ne0.false ∙ sym (ap start (l.ensures ∙ ap (λ (x : ℕ). max x a.before) v.t-is)) ],
       omega (arith, l.ensures),
     )
 
@@ -30,9 +29,9 @@ unfolding far_time
 returns-then-late-t c =
     let l = c.loop in
     let a = c.args in
-    let f : ℕ → ℕ = λ x. a.own + interference a.jobs (has a.above) x in
+    let f : ℕ → ℕ = λ x. a.own + interference a.self.jobs (has a.above) x in
     let past : a.limit < l.t = omega (arith, c.if-late-t.true) in
-    (sym (l.invariant.0 ∙ ap (far_time (table a.jobs a.utilisations) (has a.above) a.own a.limit) (steps-past f a.limit (plain_steps - l.counter) past) ∙ loop-past f _ a.limit past), omega arith, λ e. absurd (omega arith))
+    (sym (l.invariant.0 ∙ ap (far_time a.self (has a.above) a.own a.limit) (steps-past f a.limit (plain_steps - l.counter) past) ∙ loop-past f _ a.limit past), omega arith, λ e. absurd (omega arith))
 
 -- In a turn: the demand at t.
 module _ (c : After-interference) where
@@ -43,10 +42,10 @@ module _ (c : After-interference) where
   limit = c.args.limit
 
   abbrev f : ℕ → ℕ
-  f x = let a = c.args in a.own + interference a.jobs (has a.above) x
+  f x = let a = c.args in a.own + interference a.self.jobs (has a.above) x
 
   abbrev far : ℕ → ℕ
-  far = let a = c.args in far_time (table a.jobs a.utilisations) (has a.above) a.own a.limit
+  far = let a = c.args in far_time a.self (has a.above) a.own a.limit
 
   next : c.args.own + c.interference.result ≡ f t
   next = ap (λ (x : ℕ). c.args.own + x) c.interference.ensures.0
@@ -84,11 +83,11 @@ pub returns : goal.returns
 returns c =
     let l = c.loop in
     let a = c.args in
-    let f : ℕ → ℕ = λ x. a.own + interference a.jobs (has a.above) x in
+    let f : ℕ → ℕ = λ x. a.own + interference a.self.jobs (has a.above) x in
     let none : plain_steps - l.counter ≡ 0 = omega (arith, c.loop-test.false) in
-    let found : c.far_time.result ≡ far_time (table a.jobs a.utilisations) (has a.above) a.own a.limit l.t = c.far_time.ensures.0 in (
+    let found : c.far_time.result ≡ far_time a.self (has a.above) a.own a.limit l.t = c.far_time.ensures.0 in (
       found
-          ∙ sym (l.invariant.0 ∙ ap (far_time (table a.jobs a.utilisations) (has a.above) a.own a.limit) (ap (λ (n : ℕ). steps f a.limit n l.t) none ∙ steps-none f a.limit l.t)),
+          ∙ sym (l.invariant.0 ∙ ap (far_time a.self (has a.above) a.own a.limit) (ap (λ (n : ℕ). steps f a.limit n l.t) none ∙ steps-none f a.limit l.t)),
       c.far_time.ensures.1,
       λ e. omega (arith, l.invariant.1, c.far_time.ensures.2 e),
     )
