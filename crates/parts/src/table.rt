@@ -41,10 +41,8 @@ pub fn breakdown_of(
     let count = Job::at_most(n);
     let workload = Workload::plain(jobs);
     let mut parts = [Parts::NONE; Job::MOST];
-    let mut k = 0;
-    while k < count {
+    for k in 0..count {
         parts[k] = parts_in(workload, settings, count, k);
-        k += 1;
     }
     parts
 }
