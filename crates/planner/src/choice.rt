@@ -8,7 +8,6 @@ use crate::quanta;
 use crate::quanta::Question;
 use periods::sums::ALL;
 use records::job::Job;
-use sets::order::Next;
 
 // The first set that can be taken, with its quanta, and the number of sets considered; the set is 0 where none can be taken.
 #[derive(Clone, Copy)]
@@ -25,19 +24,10 @@ fn first_of(question: Question, sequence: &[u8], left: u8) -> Choice
 {
     let mut place = 0;
     let mut missed: u16 = 0;
-    loop {
-        let next = sets::order::next_subset(sequence, left, place);
-        let Next::At(at) = next else {
-            return Choice {
-                set: 0,
-                quanta: [0u8; Job::MOST],
-                considered: missed,
-            };
-        };
+    while let Some(at) = sets::order::next_subset(sequence, left, place) {
         let set = sequence[at];
-        let answer = quanta::quanta_for(question, left, set);
-        if answer.found {
-            let quanta = answer.quanta;
+        let found = quanta::quanta_for(question, left, set);
+        if let Some(quanta) = found {
             let considered = missed + 1;
             return Choice {
                 set,
@@ -47,6 +37,11 @@ fn first_of(question: Question, sequence: &[u8], left: u8) -> Choice
         }
         missed += 1;
         place = at + 1;
+    }
+    Choice {
+        set: 0,
+        quanta: [0u8; Job::MOST],
+        considered: missed,
     }
 }
 
@@ -62,20 +57,16 @@ pub(crate) fn choose(question: Question, sums: &[u32; ALL], singles: &[u8], left
     }
     let most = sets::size(left) as usize;
     let mut missed = alone.considered;
-    let mut size = 1;
-    while size < most {
-        size += 1;
+    for size in 2..=most {
         let found = periods::subsets::subsets_of(sums, left, size);
         let tried = found.sets;
         let count = found.count;
         let choice = first_of(question, &tried[..count], left);
         missed += choice.considered;
         if choice.set != 0 {
-            let quanta = choice.quanta;
             return Choice {
-                set: choice.set,
-                quanta,
                 considered: missed,
+                ..choice
             };
         }
     }

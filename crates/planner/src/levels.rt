@@ -62,15 +62,12 @@ fn settings_with(
     let jobs = workload.jobs;
     let size = sets::size(set);
     let mut next = [Setting::BLANK; Job::MOST];
-    let mut k = 0;
-    while k < question.n {
-        let job = jobs[k];
+    for k in 0..question.n {
         next[k] = if sets::contains(set, k) {
-            setting_in(job.id, level, size, quanta[k])
+            setting_in(jobs[k].id, level, size, quanta[k])
         } else {
             settings[k]
         };
-        k += 1;
     }
     next
 }
@@ -88,14 +85,12 @@ fn bounds_with(
 {
     let workload = question.workload;
     let mut next = [0u16; Job::MOST];
-    let mut k = 0;
-    while k < question.n {
+    for k in 0..question.n {
         next[k] = if sets::contains(set, k) {
             workload.bound(quanta, set, above, k)
         } else {
             bounds[k]
         };
-        k += 1;
     }
     next
 }
@@ -128,16 +123,13 @@ fn start(question: Question) -> Progress
     let workload = question.workload;
     let jobs = workload.jobs;
     let mut settings = [Setting::BLANK; Job::MOST];
-    let mut k = 0;
-    while k < question.n {
-        let job = jobs[k];
+    for (k, job) in jobs[..question.n].iter().enumerate() {
         settings[k] = Setting {
             id: job.id,
             level: 0,
             policy: Setting::NOT_PLACED,
             quantum: 0,
         };
-        k += 1;
     }
     Progress {
         left: sets::first_jobs(question.n),
@@ -153,15 +145,13 @@ pub(crate) fn plan_levels(question: Question, sums: &[u32; ALL], singles: &[u8])
     ensures { result ≡ progress_of (last_stage question (by_periods (listed question))) (count_all question (by_periods (listed question))) }
 {
     let mut progress = start(question);
-    let mut level = question.n;
-    while 0 < level {
+    for level in (1..=question.n).rev() {
         let choice = choice::choose(question, sums, singles, progress.left);
         if choice.set == 0 {
             progress.considered += choice.considered;
             return progress;
         }
         progress = place(question, progress, level as u8, choice);
-        level -= 1;
     }
     progress
 }

@@ -1,5 +1,5 @@
-use mathlib.Core.Path.{sym}
 use borrow.Author.Tests.{not-true}
+use mathlib.Core.Path.{sym}
 use Rattle.planner.proofs.Asked.{laid, begins, ends, out}
 use Rattle.planner.proofs.quanta.quanta_per_job.Goals as goal
 
@@ -21,5 +21,4 @@ settle-requires c =
 pub returns : goal.returns
 returns c =
     let a = c.args in
-    ends a.question c.requires.0 a.left a.set c.requires.1 c.requires.2 c.rest-above.result c.rest-above.ensures c.lowest_quanta-quanta.result
-    c.settle.result.found c.settle.result.quanta c.settle.ensures
+    ends a.question c.requires.0 a.left a.set c.requires.1 c.requires.2 c.rest-above.result c.rest-above.ensures c.lowest_quanta-quanta.result c.settle.result c.settle.ensures
