@@ -18,9 +18,9 @@ pub struct Choice {
 }
 
 // Goes through the subsets of the jobs left, in the order of the sequence.
-fn first_of(question: Question, sequence: &[u8], left: u8) -> Choice
-    requires { Accepted question × (left < 2 ^ question.n) × (length sequence.now ≤ most_sets) }
-    ensures { Chosen question sequence.now left result }
+fn first_of(question: &Question, sequence: &[u8], left: u8) -> Choice
+    requires { Accepted question.now × (left < 2 ^ question.now.n) × (length sequence.now ≤ most_sets) }
+    ensures { Chosen question.now sequence.now left result }
 {
     let mut place = 0;
     let mut missed: u16 = 0;
@@ -47,9 +47,9 @@ fn first_of(question: Question, sequence: &[u8], left: u8) -> Choice
 
 // Goes through the subsets of the jobs left, size by size, each size by larger sum of periods, then by smaller number. The sets of one job
 // are given in their order; those of a larger size are put in order when it is reached.
-pub(crate) fn choose(question: Question, sums: &[u32; ALL], singles: &[u8], left: u8) -> Choice
-    requires { Accepted question × (left < 2 ^ question.n) × Sorted question sums.now singles.now }
-    ensures { Chosen question (by_periods (listed question)) left result }
+pub(crate) fn choose(question: &Question, sums: &[u32; ALL], singles: &[u8], left: u8) -> Choice
+    requires { Accepted question.now × (left < 2 ^ question.now.n) × Sorted question.now sums.now singles.now }
+    ensures { Chosen question.now (by_periods (listed question.now)) left result }
 {
     let alone = first_of(question, singles, left);
     if alone.set != 0 {

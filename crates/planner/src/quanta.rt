@@ -36,9 +36,9 @@ fn lowest_quanta(set: u8, low: u8) -> [u8; Job::MOST]
 }
 
 // Whether each job of a layer is served with the highest quantum beside the lowest of the others.
-fn is_within_reach(question: Question, layer: u8, above: u8, quanta: [u8; Job::MOST]) -> bool
-    requires { Laid question layer above × (quanta ≡ lowest_quanta question.range.low (has layer)) }
-    ensures { result ≡ false → Hopeless (listed question) question.range.low question.range.high (has layer) (has above) }
+fn is_within_reach(question: &Question, layer: u8, above: u8, quanta: [u8; Job::MOST]) -> bool
+    requires { Laid question.now layer above × (quanta ≡ lowest_quanta question.now.range.low (has layer)) }
+    ensures { result ≡ false → Hopeless (listed question.now) question.now.range.low question.now.range.high (has layer) (has above) }
 {
     let workload = question.workload;
     for job in 0..question.n {
@@ -56,14 +56,14 @@ fn is_within_reach(question: Question, layer: u8, above: u8, quanta: [u8; Job::M
 
 // Raises the quantum of a job until it is served beside the quanta of the others; none where the highest does not serve it.
 fn raise(
-    question: Question,
+    question: &Question,
     layer: u8,
     above: u8,
     quanta: [u8; Job::MOST],
     job: usize,
 ) -> Option<[u8; Job::MOST]>
-    requires { Laid question layer above × Standing (listed question) question.range.low question.range.high (has layer) (has above) quanta × (job < question.n) × (has layer job ≡ true) }
-    ensures { Raises (listed question) question.range.low question.range.high (has layer) (has above) job quanta result }
+    requires { Laid question.now layer above × Standing (listed question.now) question.now.range.low question.now.range.high (has layer) (has above) quanta × (job < question.now.n) × (has layer job ≡ true) }
+    ensures { Raises (listed question.now) question.now.range.low question.now.range.high (has layer) (has above) job quanta result }
 {
     let workload = question.workload;
     let range = question.range;
@@ -80,14 +80,14 @@ fn raise(
 // Settles the pending jobs of a layer: the first of them takes the smallest quantum with which it is served, the jobs after it being
 // settled again, from where they stood, whenever it rises.
 fn settle(
-    question: Question,
+    question: &Question,
     layer: u8,
     above: u8,
     pending: u8,
     quanta: [u8; Job::MOST],
 ) -> Option<[u8; Job::MOST]>
-    requires { Pending question layer above pending quanta }
-    ensures { Settles (listed question) question.range.low question.range.high (has layer) (has above) (has pending) quanta result }
+    requires { Pending question.now layer above pending quanta }
+    ensures { Settles (listed question.now) question.now.range.low question.now.range.high (has layer) (has above) (has pending) quanta result }
 {
     if pending == 0 {
         return Some(quanta);
@@ -105,9 +105,9 @@ fn settle(
 }
 
 // The quanta with which a set of the jobs left can be taken, the rest of them above, each job having one of its own.
-fn quanta_per_job(question: Question, left: u8, set: u8) -> Option<[u8; Job::MOST]>
-    requires { Accepted question × (left < 2 ^ question.n) × (set < 2 ^ question.n) }
-    ensures { offered question.n result ≡ quanta_for (listed question) question.range.low question.range.high left set }
+fn quanta_per_job(question: &Question, left: u8, set: u8) -> Option<[u8; Job::MOST]>
+    requires { Accepted question.now × (left < 2 ^ question.now.n) × (set < 2 ^ question.now.n) }
+    ensures { offered question.now.n result ≡ quanta_for (listed question.now) question.now.range.low question.now.range.high left set }
 {
     let above = sets::rest(left, set);
     let range = question.range;
@@ -119,9 +119,9 @@ fn quanta_per_job(question: Question, left: u8, set: u8) -> Option<[u8; Job::MOS
 }
 
 // The quanta with which a set of the jobs left can be taken, by the search that is asked for.
-pub(crate) fn quanta_for(question: Question, left: u8, set: u8) -> Option<[u8; Job::MOST]>
-    requires { Accepted question × (left < 2 ^ question.n) × (set < 2 ^ question.n) }
-    ensures { offered question.n result ≡ finds question left set }
+pub(crate) fn quanta_for(question: &Question, left: u8, set: u8) -> Option<[u8; Job::MOST]>
+    requires { Accepted question.now × (left < 2 ^ question.now.n) × (set < 2 ^ question.now.n) }
+    ensures { offered question.now.n result ≡ finds question.now left set }
 {
     match question.search {
         QuantaSearch::PerJob => quanta_per_job(question, left, set),

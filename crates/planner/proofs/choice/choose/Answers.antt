@@ -26,7 +26,7 @@ first_of-alone-requires c = (c.requires.0, c.requires.1, c.requires.2.few)
 -- The sets of one job.
 module _ (c : After-first_of-alone) where
   abbrev question : Question
-  question = c.args.question
+  question = c.args.question.now
 
   abbrev left : ℕ
   left = c.args.left
@@ -87,22 +87,22 @@ module _ (c : After-first_of-choice) where
   room =
       omega (
         arith,
-        missed-few c.args.question c.requires.0 _ _ c.requires.2 c.args.left c.requires.1 _ c.loop-size.missed c.loop-size.invariant.1,
+        missed-few c.args.question.now c.requires.0 _ _ c.requires.2 c.args.left c.requires.1 _ c.loop-size.missed c.loop-size.invariant.1,
         c.first_of-choice.ensures.few,
         length-take-le (count (goal.at.After-first_of-choice c).After-subsets_of-found) c.subsets_of-found.result.sets (fits (goal.at.After-first_of-choice c).After-subsets_of-found),
         c.subsets_of-found.ensures.few,
       )
 
-  part-are : subsets c.args.left part ≡ heaviest_first (total (period_at (listed c.args.question))) c.args.left (suc (before (goal.at.After-first_of-choice c).In-loop-size))
+  part-are : subsets c.args.left part ≡ heaviest_first (total (period_at (listed c.args.question.now))) c.args.left (suc (before (goal.at.After-first_of-choice c).In-loop-size))
   part-are =
-      found-are c.args.question c.requires.0 _ _ c.requires.2 c.args.left c.requires.1 c.loop-size.size c.subsets_of-found.result c.subsets_of-found.ensures
-      ∙ ap (heaviest_first (total (period_at (listed c.args.question))) c.args.left) (sym (next (goal.at.After-first_of-choice c).In-loop-size))
+      found-are c.args.question.now c.requires.0 _ _ c.requires.2 c.args.left c.requires.1 c.loop-size.size c.subsets_of-found.result c.subsets_of-found.ensures
+      ∙ ap (heaviest_first (total (period_at (listed c.args.question.now))) c.args.left) (sym (next (goal.at.After-first_of-choice c).In-loop-size))
 
   -- None of them can be taken.
   misses : c.first_of-choice.result.set ≡ 0
-      → Reached (takeable c.args.question c.args.left) (subsets c.args.left (by_periods (listed c.args.question))) (beyond (total (period_at (listed c.args.question))) c.args.left (c.loop-size.size + 1 - 1)) (c.loop-size.missed + c.first_of-choice.result.considered)
+      → Reached (takeable c.args.question.now c.args.left) (subsets c.args.left (by_periods (listed c.args.question.now))) (beyond (total (period_at (listed c.args.question.now))) c.args.left (c.loop-size.size + 1 - 1)) (c.loop-size.missed + c.first_of-choice.result.considered)
   misses none =
-      size-misses c.args.question c.requires.0 _ _ c.requires.2 c.args.left c.requires.1 _ _ c.loop-size.invariant.1 (below (goal.at.After-first_of-choice c).In-loop-size) part part-are
+      size-misses c.args.question.now c.requires.0 _ _ c.requires.2 c.args.left c.requires.1 _ _ c.loop-size.invariant.1 (below (goal.at.After-first_of-choice c).In-loop-size) part part-are
       c.first_of-choice.result c.first_of-choice.ensures none _ _ (omega (arith, next (goal.at.After-first_of-choice c).In-loop-size)) refl
 
 pub overflow_add-missed : goal.overflow_add-missed
@@ -110,7 +110,7 @@ overflow_add-missed c = omega (arith, room (goal.at.overflow_add-missed c).After
 
 pub returns-then-choice-ne0 : goal.returns-then-choice-ne0
 returns-then-choice-ne0 c =
-    size-takes c.args.question c.requires.0 _ _ c.requires.2 c.args.left c.requires.1 _ _ c.loop-size.invariant.1 (below (goal.at.returns-then-choice-ne0 c).In-loop-size) (part (goal.at.returns-then-choice-ne0 c).After-first_of-choice) (part-are (goal.at.returns-then-choice-ne0 c).After-first_of-choice)
+    size-takes c.args.question.now c.requires.0 _ _ c.requires.2 c.args.left c.requires.1 _ _ c.loop-size.invariant.1 (below (goal.at.returns-then-choice-ne0 c).In-loop-size) (part (goal.at.returns-then-choice-ne0 c).After-first_of-choice) (part-are (goal.at.returns-then-choice-ne0 c).After-first_of-choice)
     c.first_of-choice.result c.first_of-choice.ensures c.if-choice-ne0.true _ refl refl refl
 
 pub loop-size-preserved : goal.loop-size-preserved
@@ -121,8 +121,8 @@ loop-size-preserved c = (
 
 pub returns-else-alone-ne0 : goal.returns-else-alone-ne0
 returns-else-alone-ne0 c =
-    search-ends c.args.question c.requires.0 _ _ c.requires.2 c.args.left c.requires.1 _ _ c.loop-size.invariant.1 (omega (arith, c.loop-size-test.false, c.size-most.ensures)) _ refl refl
+    search-ends c.args.question.now c.requires.0 _ _ c.requires.2 c.args.left c.requires.1 _ _ c.loop-size.invariant.1 (omega (arith, c.loop-size-test.false, c.size-most.ensures)) _ refl refl
 
 pub returns-else-choice-ne0 : goal.returns-else-choice-ne0
 returns-else-choice-ne0 c =
-    search-ends c.args.question c.requires.0 _ _ c.requires.2 c.args.left c.requires.1 _ _ (misses (goal.at.returns-else-choice-ne0 c).After-first_of-choice c.if-choice-ne0.false) (omega (arith, c.size-most.ensures)) _ refl refl
+    search-ends c.args.question.now c.requires.0 _ _ c.requires.2 c.args.left c.requires.1 _ _ (misses (goal.at.returns-else-choice-ne0 c).After-first_of-choice c.if-choice-ne0.false) (omega (arith, c.size-most.ensures)) _ refl refl

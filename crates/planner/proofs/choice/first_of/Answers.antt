@@ -16,7 +16,7 @@ use Rattle.planner.proofs.choice.first_of.Goals.{In-Some}
 pub loop-at-init : goal.loop-at-init
 loop-at-init c =
     let a = c.args in
-    (reached-none (takeable a.question a.left) (subsets a.left a.sequence.now), omega arith, omega arith)
+    (reached-none (takeable a.question.now a.left) (subsets a.left a.sequence.now), omega arith, omega arith)
 
 -- The step of the walk to a set.
 step : (c : In-Some) → Step c.args.sequence.now c.args.left c.loop-at.place c.in-Some.at
@@ -37,8 +37,8 @@ pub returns-in-Some-found : goal.returns-in-Some-found
 returns-in-Some-found c =
     let a = c.args in
     let S = step (goal.at.returns-in-Some-found c).In-Some in
-    let f : finds a.question a.left (get_or a.sequence.now c.in-Some.at 0) ≡ some (take a.question.n c.in-Some-found.quanta) = sym c.in-Some-found.ensures in
-    let A = reached-taken (takeable a.question a.left) (subsets a.left a.sequence.now) _ c.loop-at.missed c.loop-at.invariant.0 _ _ S.first (ap is_found f) in
+    let f : finds a.question.now a.left (get_or a.sequence.now c.in-Some.at 0) ≡ some (take a.question.now.n c.in-Some-found.quanta) = sym c.in-Some-found.ensures in
+    let A = reached-taken (takeable a.question.now a.left) (subsets a.left a.sequence.now) _ c.loop-at.missed c.loop-at.invariant.0 _ _ S.first (ap is_found f) in
     record { set = sym A.first; quanta = λ p. f; count = sym A.count; few = omega (arith, c.loop-at.invariant.1, S.later, S.before) }
 
 pub overflow_add-missed : goal.overflow_add-missed
@@ -58,11 +58,11 @@ pub loop-at-preserved : goal.loop-at-preserved
 loop-at-preserved c =
     let a = c.args in
     let S = step (goal.at.loop-at-preserved c).In-Some in
-    let missed : takeable a.question a.left (get_or a.sequence.now c.in-Some.at 0) ≡ false = ap is_found (sym c.in_default-found.ensures) in
-    (reached-next (takeable a.question a.left) (subsets a.left a.sequence.now) _ c.loop-at.missed c.loop-at.invariant.0 _ _ S.first missed, omega (arith, c.loop-at.invariant.1, S.later), omega (arith, S.before))
+    let missed : takeable a.question.now a.left (get_or a.sequence.now c.in-Some.at 0) ≡ false = ap is_found (sym c.in_default-found.ensures) in
+    (reached-next (takeable a.question.now a.left) (subsets a.left a.sequence.now) _ c.loop-at.missed c.loop-at.invariant.0 _ _ S.first missed, omega (arith, c.loop-at.invariant.1, S.later), omega (arith, S.before))
 
 pub returns : goal.returns
 returns c =
     let a = c.args in
-    let A = reached-end (takeable a.question a.left) (subsets a.left a.sequence.now) _ c.loop-at.missed c.loop-at.invariant.0 (walk_ends a.sequence.now a.left c.loop-at.place (sym c.next_subset.ensures ∙ c.in_default.is)) in
+    let A = reached-end (takeable a.question.now a.left) (subsets a.left a.sequence.now) _ c.loop-at.missed c.loop-at.invariant.0 (walk_ends a.sequence.now a.left c.loop-at.place (sym c.next_subset.ensures ∙ c.in_default.is)) in
     record { set = sym A.first; quanta = λ p. absurd (omega arith); count = sym A.count; few = omega (arith, c.loop-at.invariant.1, c.loop-at.invariant.2) }

@@ -20,12 +20,12 @@ use Rattle.planner.proofs.quanta.+settle.Goals.{Start, At-loop-stood}
 -- What is known of the question.
 module _ (t : ℕ) (c : Start t) where
   abbrev jobs : List Job
-  jobs = listed c.args.question
+  jobs = listed c.args.question.now
 
   costs : Costs jobs
-  costs = listed-costs c.args.question c.requires.laid.accepted
+  costs = listed-costs c.args.question.now c.requires.laid.accepted
 
-  lp : 0 < c.args.question.range.low
+  lp : 0 < c.args.question.now.range.low
   lp = c.requires.laid.accepted.low
 
 -- What is known at a turn of the loop.
@@ -39,17 +39,17 @@ module _ (t : ℕ) (c : At-loop-stood t) where
   in-layer : has c.args.layer c.lowest-job.result ≡ true
   in-layer = within_has c.args.pending c.args.layer c.requires.sub c.lowest-job.result splits.own
 
-  place : c.lowest-job.result < c.args.question.n
-  place = member-lt c.args.question.n c.args.layer c.lowest-job.result c.requires.laid.inside in-layer
+  place : c.lowest-job.result < c.args.question.now.n
+  place = member-lt c.args.question.now.n c.args.layer c.lowest-job.result c.requires.laid.inside in-layer
 
   listed-place : c.lowest-job.result < length (jobs t start)
-  listed-place = omega (arith, place, listed-length c.args.question c.requires.laid.accepted)
+  listed-place = omega (arith, place, listed-length c.args.question.now c.requires.laid.accepted)
 
 pub returns-then-pending-eq0 : goal.returns-then-pending-eq0
 returns-then-pending-eq0 t c =
     let s = (goal.at.returns-then-pending-eq0 t c).Start in
     let a = c.args in
-    none-pending (jobs t s) (costs t s) a.question.range.low a.question.range.high (lp t s) (has a.layer) (has a.above) (has a.pending) a.quanta
+    none-pending (jobs t s) (costs t s) a.question.now.range.low a.question.now.range.high (lp t s) (has a.layer) (has a.above) (has a.pending) a.quanta
     (λ i. ap (λ (x : ℕ). has x i) c.if-pending-eq0.true ∙ has-none i) c.requires.standing
 
 pub settle-requires : goal.settle-requires
@@ -81,7 +81,7 @@ returns-then-now-job t c =
     let s = start t l in
     let a = c.args in
     let S = splits t l in
-    turn-ends (jobs t s) (costs t s) a.question.range.low a.question.range.high (lp t s) (has a.layer) (has a.above) c.lowest-job.result (listed-place t l) (in-layer t l)
+    turn-ends (jobs t s) (costs t s) a.question.now.range.low a.question.now.range.high (lp t s) (has a.layer) (has a.above) c.lowest-job.result (listed-place t l) (in-layer t l)
     (has a.pending) (has c.remove-after.result) S.own S.off S.inside S.outside a.quanta c.loop-stood.now c.loop-stood.invariant.1 c.in_ok-stood.stood c.in_ok-stood.ensures c.in_ok-now.now c.in_ok-now.ensures.0 c.in_ok-now.ensures.1 c.if-now-job.true
 
 pub loop-stood-smaller : goal.loop-stood-smaller
@@ -90,7 +90,7 @@ loop-stood-smaller t c =
     let s = start t l in
     let a = c.args in
     let S = splits t l in
-    turn-less (jobs t s) (costs t s) a.question.range.low a.question.range.high (lp t s) (has a.layer) (has a.above) c.lowest-job.result (listed-place t l) (in-layer t l)
+    turn-less (jobs t s) (costs t s) a.question.now.range.low a.question.now.range.high (lp t s) (has a.layer) (has a.above) c.lowest-job.result (listed-place t l) (in-layer t l)
     (has a.pending) (has c.remove-after.result) S.own S.off S.inside S.outside a.quanta c.loop-stood.now c.loop-stood.invariant.1 c.in_ok-stood.stood c.in_ok-stood.ensures c.in_ok-now.now c.in_ok-now.ensures.0 c.in_ok-now.ensures.1 c.if-now-job.false
 
 pub loop-stood-preserved : goal.loop-stood-preserved
@@ -100,6 +100,6 @@ loop-stood-preserved t c =
     let a = c.args in
     let S = splits t l in (
       c.in_ok-now.ensures.0.standing,
-      turn-goes (jobs t s) (costs t s) a.question.range.low a.question.range.high (lp t s) (has a.layer) (has a.above) c.lowest-job.result (listed-place t l) (in-layer t l)
+      turn-goes (jobs t s) (costs t s) a.question.now.range.low a.question.now.range.high (lp t s) (has a.layer) (has a.above) c.lowest-job.result (listed-place t l) (in-layer t l)
           (has a.pending) (has c.remove-after.result) S.own S.off S.inside S.outside a.quanta c.loop-stood.now c.loop-stood.invariant.1 c.in_ok-stood.stood c.in_ok-stood.ensures c.in_ok-now.now c.in_ok-now.ensures.0 c.in_ok-now.ensures.1,
     )

@@ -16,26 +16,26 @@ use Rattle.planner.proofs.quanta.raise.Goals.{After-bound, Start}
 -- What is known of the question, the layer and the job.
 module _ (c : Start) where
   abbrev jobs : List Job
-  jobs = listed c.args.question
+  jobs = listed c.args.question.now
 
-  accepted : Accepted c.args.question
+  accepted : Accepted c.args.question.now
   accepted = c.requires.0.accepted
 
   place : c.args.job < length jobs
-  place = omega (arith, c.requires.2, listed-length c.args.question accepted)
+  place = omega (arith, c.requires.2, listed-length c.args.question.now accepted)
 
 -- The bound that a turn finds.
 found : (c : After-bound) → let a = c.args in
-    c.bound.result ≡ bound (listed a.question) c.loop-workload.now (has a.layer) (has a.above) a.job
+    c.bound.result ≡ bound (listed a.question.now) c.loop-workload.now (has a.layer) (has a.above) a.job
 found c =
     let a = c.args in
-    c.bound.ensures ∙ asked-bound a.question a.layer a.above c.requires.0 c.loop-workload.now a.job c.requires.2
+    c.bound.ensures ∙ asked-bound a.question.now a.layer a.above c.requires.0 c.loop-workload.now a.job c.requires.2
 
 pub loop-workload-init : goal.loop-workload-init
 loop-workload-init c =
     let a = c.args in
     let s = (goal.at.loop-workload-init c).Start in
-    raised-none (jobs s) (listed-costs a.question (accepted s)) a.question.range.low a.question.range.high (accepted s).low (has a.layer) (has a.above) a.job a.quanta c.requires.1
+    raised-none (jobs s) (listed-costs a.question.now (accepted s)) a.question.now.range.low a.question.now.range.high (accepted s).low (has a.layer) (has a.above) a.job a.quanta c.requires.1
 
 pub bounds-now-job : goal.bounds-now-job
 bounds-now-job c = omega (arith, c.requires.2, (accepted (goal.at.bounds-now-job c).Start).few)
@@ -44,7 +44,7 @@ pub returns-then-range-now : goal.returns-then-range-now
 returns-then-range-now c =
     let a = c.args in
     let s = (goal.at.returns-then-range-now c).Start in
-    past-highest (jobs s) (listed-costs a.question (accepted s)) a.question.range.low a.question.range.high (accepted s).low (has a.layer) (has a.above) a.job (place s) c.requires.3
+    past-highest (jobs s) (listed-costs a.question.now (accepted s)) a.question.now.range.low a.question.now.range.high (accepted s).low (has a.layer) (has a.above) a.job (place s) c.requires.3
     c.loop-workload.now c.loop-workload.invariant.standing (λ p. omega (arith, found (goal.at.returns-then-range-now c).After-bound, c.loop-workload-test.true)) c.if-range-now.true
 
 pub loop-workload-smaller : goal.loop-workload-smaller
@@ -57,7 +57,7 @@ pub loop-workload-preserved : goal.loop-workload-preserved
 loop-workload-preserved c =
     let a = c.args in
     let s = (goal.at.loop-workload-preserved c).Start in
-    raised-next (jobs s) (listed-costs a.question (accepted s)) a.question.range.low a.question.range.high (accepted s).low (has a.layer) (has a.above) a.job (place s) c.requires.3
+    raised-next (jobs s) (listed-costs a.question.now (accepted s)) a.question.now.range.low a.question.now.range.high (accepted s).low (has a.layer) (has a.above) a.job (place s) c.requires.3
     a.quanta c.loop-workload.now c.loop-workload.invariant (λ p. omega (arith, found (goal.at.loop-workload-preserved c).After-bound, c.loop-workload-test.true)) c.if-range-now.false
 
 pub returns : goal.returns
