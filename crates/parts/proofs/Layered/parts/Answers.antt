@@ -17,28 +17,28 @@ use Rattle.search.specs.Search.{one_bound}
 use Rattle.search.specs.declared.workload.Workload.{Workload}
 use Rattle.search.proofs.Deciding.{with-set, only_set}
 use Rattle.parts.proofs.Reached.{bound-found, no-neighbours}
-use Rattle.parts.proofs.parts_of.Goals as goal
-use Rattle.parts.proofs.parts_of.Goals.{After-lesser-bound}
+use Rattle.parts.proofs.Layered.parts.Goals as goal
+use Rattle.parts.proofs.Layered.parts.Goals.{After-lesser-bound}
 
 -- After the lesser of the two bounds: each is the definition's.
 module _ (c : After-lesser-bound) where
   abbrev jobs : List Job
-  jobs = c.args.workload.jobs
+  jobs = c.args.self.now.workload.jobs
 
   abbrev quanta : List ℕ
-  quanta = c.args.quanta
+  quanta = c.args.self.now.quanta
 
   abbrev s : Set
-  s = has c.args.layer
+  s = has c.args.self.now.layer
 
   abbrev o : Set
-  o = has c.args.above
+  o = has c.args.self.now.above
 
   abbrev k : ℕ
-  k = c.args.job
+  k = c.args.self.now.job
 
-  shares : c.args.workload.utilisations ≡ utilisations_of jobs
-  shares = ap (λ (w : Workload). w.utilisations) c.requires.0
+  shares : c.args.self.now.workload.utilisations ≡ utilisations_of jobs
+  shares = ap (λ (w : Workload). w.utilisations) c.args.self.now.plain
 
   first : c.run-first.result ≡ first_bound jobs quanta s o k
   first = c.run-first.ensures ∙ bound-found jobs quanta s o k _ s o shares refl refl
@@ -47,18 +47,18 @@ module _ (c : After-lesser-bound) where
   second =
       let a = c.args in
       let beside = c.remove-neighbours in
-      let w = a.workload in
+      let w = a.self.now.workload in
       let given_by : Bool → ℕ =
       λ b. cond b c.run-first.result
-      (one_bound (record { jobs = w.jobs; utilisations = w.utilisations; unassignable = w.unassignable; sought = 0 }) quanta (has (single k)) (has (join a.above beside.result)) k) in
+      (one_bound (record { jobs = w.jobs; utilisations = w.utilisations; unassignable = w.unassignable; sought = 0 }) quanta (has (single k)) (has (join a.self.now.above beside.result)) k) in
       elim (ℕ_discrete beside.result 0) [
         | yes z ↦
             c.second_bound-second.ensures ∙ ap given_by (eq-eqb beside.result 0 z)
-            ∙ first ∙ sym (second-first jobs k quanta s o (no-neighbours (length jobs) a.layer k c.requires.1 (sym beside.ensures ∙ z)))
+            ∙ first ∙ sym (second-first jobs k quanta s o (no-neighbours (length jobs) a.self.now.layer k c.args.self.now.placed (sym beside.ensures ∙ z)))
         | no z ↦
             c.second_bound-second.ensures ∙ ap given_by (ne_eqb beside.result 0 z)
-            ∙ bound-found jobs quanta (only k) (with_neighbours s o k) k _ (has (single k)) (has (join a.above beside.result)) shares (only_set k c.requires.1)
-            (ap has (ap (join a.above) beside.ensures) ∙ with-set a.layer a.above k c.requires.1)
+            ∙ bound-found jobs quanta (only k) (with_neighbours s o k) k _ (has (single k)) (has (join a.self.now.above beside.result)) shares (only_set k c.args.self.now.placed)
+            (ap has (ap (join a.self.now.above) beside.ensures) ∙ with-set a.self.now.layer a.self.now.above k c.args.self.now.placed)
       ]
 
   is_bound : c.lesser-bound.result ≡ bound jobs quanta s o k
@@ -75,7 +75,7 @@ returns-then-bound-eq0 c =
 
 pub first_parts-requires : goal.first_parts-requires
 first_parts-requires c =
-    (c.requires.0, c.requires.1, omega (arith, c.if-bound-eq0.false), ⊎_elim (λ e. e ∙ first (goal.at.first_parts-requires c).After-lesser-bound) (λ e. omega (arith, c.if-bound-first.true, e, first (goal.at.first_parts-requires c).After-lesser-bound)) (one (goal.at.first_parts-requires c).After-lesser-bound))
+    (omega (arith, c.if-bound-eq0.false), ⊎_elim (λ e. e ∙ first (goal.at.first_parts-requires c).After-lesser-bound) (λ e. omega (arith, c.if-bound-first.true, e, first (goal.at.first_parts-requires c).After-lesser-bound)) (one (goal.at.first_parts-requires c).After-lesser-bound))
 
 pub returns-then-bound-first : goal.returns-then-bound-first
 returns-then-bound-first c =
@@ -84,7 +84,7 @@ returns-then-bound-first c =
 
 pub second_parts-requires : goal.second_parts-requires
 second_parts-requires c =
-    (c.requires.0, c.requires.1, omega (arith, c.if-bound-eq0.false), ⊎_elim (λ e. omega (arith, c.if-bound-first.false, e, second (goal.at.second_parts-requires c).After-lesser-bound)) (λ e. e ∙ second (goal.at.second_parts-requires c).After-lesser-bound) (one (goal.at.second_parts-requires c).After-lesser-bound))
+    (omega (arith, c.if-bound-eq0.false), ⊎_elim (λ e. omega (arith, c.if-bound-first.false, e, second (goal.at.second_parts-requires c).After-lesser-bound)) (λ e. e ∙ second (goal.at.second_parts-requires c).After-lesser-bound) (one (goal.at.second_parts-requires c).After-lesser-bound))
 
 pub returns : goal.returns
 returns c =
