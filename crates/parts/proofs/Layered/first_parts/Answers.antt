@@ -66,9 +66,6 @@ finish_of-finish-requires c = (omega (arith, counted (goal.at.finish_of-finish-r
 own-fits : (c : After-run-count) → Fits w16 (entry c).cost → count c * (entry c).cost ≤ 64 * 65535
 own-fits c h = instances-fit 64 (count c) (entry c).cost (omega (arith, counted c, within c)) (omega arith)
 
-pub overflow_mul-work : goal.overflow_mul-work
-overflow_mul-work c = omega (arith, own-fits (goal.at.overflow_mul-work c).After-run-count (search rules))
-
 -- After the sums: what the layer and the jobs above add.
 module _ (c : After-work_by-from_above) where
   abbrev share : ℕ
