@@ -3,7 +3,6 @@ use Prim.Native.Nat.{ℕ, suc, ◌+◌, ◌-◌, ◌≤◌, ◌<◌}
 use mathlib.Core.Path.{◌≡◌, refl, sym, ap, ap₂, ◌∙◌}
 use mathlib.Core.Bool.{Bool, true, false, cond}
 use mathlib.Core.List.{List, [], ◌∷◌, ◌++◌, map, append_assoc, append-nil}
-use mathlib.Core.Option.{none, some}
 use native.Mathlib.Numerals.{add-one}
 use native.Mathlib.Omega.{arith}
 use lib.ListN.{length, take, drop, set, length-take, length-map, drop_of_length-le}
@@ -11,15 +10,17 @@ use lib.Seq.{drop-drop, length-take-le, take-suc-set}
 use borrow.Author.Tests.{lt-ltb, le-ltb, ne_eqb}
 use Rattle.records.specs.Limits.{most_jobs}
 use Rattle.same_bytes.specs.Same.{same_bytes}
-use Rattle.lists.specs.declared.fault.Fault.TheVariants.{TooMany, SecondRange}
+use Rattle.lists.specs.declared.fault.Fault.{Fault}
+use Rattle.lists.specs.declared.fault.Fault.TheVariants.{TooMany}
 use Rattle.lists.specs.declared.words.Mark.TheVariants.{Blank, Word, LineEnd}
 use Rattle.lists.specs.declared.fields.Form.{Form}
 use Rattle.lists.specs.declared.fields.Form.TheVariants.{Quanta}
 use Rattle.lists.specs.declared.fields.Row.{Row}
-use Rattle.lists.specs.declared.rows.LineAnswer.TheVariants.{Skipped}
+use Rattle.lists.specs.declared.rows.Line.TheVariants.{Skipped}
+use Rattle.std.specs.Prelude.{Ok}
 use Rattle.lists.specs.declared.rows.RowsRead.{RowsRead}
 use Rattle.lists.specs.Words.{is_mark, parts_from, parts, before, lines, words}
-use Rattle.lists.specs.Rows.{says_range, says_placed, row_line, range_line, row_answer, read_fields, words_line, plain_line, read_line, Rows, Reading, given, faulty, with_row, with_range, with_line, read_lines, mark_size, rows_in}
+use Rattle.lists.specs.Rows.{says_range, says_placed, row_line, range_line, row_answer, read_fields, words_line, plain_line, read_line, Rows, Reading, given, faulty, with_row, with_line, read_lines, mark_size, range_of, rows_in}
 use Rattle.lists.proofs.Parsing.{before-take, no_word, next_word}
 
 -- The length of a table of structs, whose entries the checker sees through a map.
@@ -29,7 +30,7 @@ unmapped X Y f l n e = sym (length-map l f) ∙ e
 -- ---- a line by its first word
 
 module _ (form : Form) (content : List ℕ) (start : ℕ) (found : start ≡ 0 + length (before (is_mark Word) (drop 0 content))) where
-  pub line-empty : length content ≤ start → words_line form (words content) ≡ Skipped
+  pub line-empty : length content ≤ start → words_line form (words content) ≡ Ok Skipped
   line-empty h = ap (words_line form) (no_word content 0 start found h)
 
   module _ (more : start < length content) (end : ℕ) (e : end ≡ start + length (before (is_mark Blank) (drop start content))) where
@@ -42,7 +43,7 @@ module _ (form : Form) (content : List ℕ) (start : ℕ) (found : start ≡ 0 +
     pub line-range : says_range form word ≡ true → words_line form (words content) ≡ range_line (row_answer (read_fields Quanta (words (drop end content))))
     line-range h = ap (words_line form) first_word ∙ rw h
 
-    pub line-placed : says_range form word ≡ false → says_placed form word ≡ true → words_line form (words content) ≡ Skipped
+    pub line-placed : says_range form word ≡ false → says_placed form word ≡ true → words_line form (words content) ≡ Ok Skipped
     line-placed h k = ap (words_line form) first_word ∙ rw (h, k)
 
     pub line_row : says_range form word ≡ false → says_placed form word ≡ false → words_line form (words content) ≡ row_line (row_answer (read_fields form (words content)))
@@ -50,31 +51,30 @@ module _ (form : Form) (content : List ℕ) (start : ℕ) (found : start ≡ 0 +
 
 -- ---- one line more
 
-module _ (read : RowsRead) (count number : ℕ) (rows-size : length read.rows ≡ most_jobs) (at_size : length read.at ≡ most_jobs) where
-  pub row_fits : count < most_jobs → (row : Row) → ◌≡◌ {A = Reading Rows}
-      (given (record { rows = take (count + 1) (set read.rows count row); at = take (count + 1) (set read.at count number); range = cond read.ranged (some (read.low, read.high)) none }))
-      (with_row number row (rows_in count read))
+module _ (read : RowsRead) (number : ℕ) (rows-size : length read.rows ≡ most_jobs) (at_size : length read.at ≡ most_jobs) where
+  pub row_fits : read.count < most_jobs → (row : Row) → ◌≡◌ {A = Reading Rows}
+      (given (record { rows = take (read.count + 1) (set read.rows read.count row); at = take (read.count + 1) (set read.at read.count number); range = range_of read.range }))
+      (with_row number row (rows_in read))
   row_fits h row =
-      let size : length (take count read.rows) ≡ count = length-take-le count read.rows (omega arith) in
-      ap₂ (λ (r : List Row) (a : List ℕ). given (record { rows = r; at = a; range = cond read.ranged (some (read.low, read.high)) none }))
-      (ap (λ (k : ℕ). take k (set read.rows count row)) (add-one count) ∙ take-suc-set read.rows count row (omega arith))
-      (ap (λ (k : ℕ). take k (set read.at count number)) (add-one count) ∙ take-suc-set read.at count number (omega arith))
-      ∙ sym (rw (lt-ltb (length (take count read.rows)) most_jobs (omega arith)))
+      let size : length (take read.count read.rows) ≡ read.count = length-take-le read.count read.rows (omega arith) in
+      ap₂ (λ (r : List Row) (a : List ℕ). given (record { rows = r; at = a; range = range_of read.range }))
+      (ap (λ (k : ℕ). take k (set read.rows read.count row)) (add-one read.count) ∙ take-suc-set read.rows read.count row (omega arith))
+      (ap (λ (k : ℕ). take k (set read.at read.count number)) (add-one read.count) ∙ take-suc-set read.at read.count number (omega arith))
+      ∙ sym (rw (lt-ltb (length (take read.count read.rows)) most_jobs (omega arith)))
 
-  pub row-over : most_jobs ≤ count → (row : Row) → faulty number TooMany ≡ with_row number row (rows_in count read)
+  pub row-over : most_jobs ≤ read.count → (row : Row) → faulty number TooMany ≡ with_row number row (rows_in read)
   row-over h row =
-      let size = length-take count read.rows in
-      sym (rw (le-ltb (length (take count read.rows)) most_jobs (omega arith)))
-
-pub range-first : (number low high : ℕ) (r : Rows) → r.range ≡ none → given (record { rows = r.rows; at = r.at; range = some (low, high) }) ≡ with_range number low high r
-range-first number low high r e = sym (rw e)
-
-pub range-again : (number low high : ℕ) (r : Rows) (range : ℕ × ℕ) → r.range ≡ some range → faulty number SecondRange ≡ with_range number low high r
-range-again number low high r range e = sym (rw e)
+      let size = length-take read.count read.rows in
+      sym (rw (le-ltb (length (take read.count read.rows)) most_jobs (omega arith)))
 
 -- ---- all lines
 
-pub line-skipped : (number : ℕ) (reading : Reading Rows) → with_line number Skipped reading ≡ reading
+-- A fault stays.
+pub fault-stays : (form : Form) (number earlier : ℕ) (fault : Fault) (text : List (List ℕ)) → read_lines form number (faulty earlier fault) text ≡ faulty earlier fault
+fault-stays form number earlier fault [] = refl
+fault-stays form number earlier fault (line ∷ rest) = fault-stays form (number + 1) earlier fault rest
+
+pub line-skipped : (number : ℕ) (reading : Reading Rows) → with_line number (Ok Skipped) reading ≡ reading
 line-skipped number (given r) = refl
 line-skipped number (faulty earlier fault) = refl
 
