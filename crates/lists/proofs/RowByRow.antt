@@ -1,15 +1,19 @@
 -- Laws of the lines of a text, as a reader takes them one after the other. Assumes nothing.
 use Prim.Native.Nat.{ℕ, suc, ◌+◌, ◌-◌, ◌≤◌, ◌<◌}
 use mathlib.Core.Path.{◌≡◌, refl, sym, ap, ap₂, ◌∙◌}
-use mathlib.Core.Bool.{Bool, true, false, cond}
+use mathlib.Core.Bool.{Bool, true, false, cond, ◌&&◌}
 use mathlib.Core.List.{List, [], ◌∷◌, ◌++◌, map, append_assoc, append-nil}
 use native.Mathlib.Numerals.{add-one}
 use native.Mathlib.Omega.{arith}
 use lib.ListN.{length, take, drop, set, length-take, length-map, drop_of_length-le}
 use lib.Seq.{drop-drop, length-take-le, take-suc-set}
-use borrow.Author.Tests.{lt-ltb, le-ltb, ne_eqb}
+use borrow.Author.Tests.{lt-ltb, le-ltb}
 use Rattle.records.specs.Limits.{most_jobs}
+use Rattle.sets.specs.Places.{every}
+use Rattle.sets.proofs.Members.{eqb_swap}
 use Rattle.same_bytes.specs.Same.{same_bytes}
+use Rattle.std.specs.List.{starts_with}
+use lib.Dec.{eqb}
 use Rattle.lists.specs.declared.fault.Fault.{Fault}
 use Rattle.lists.specs.declared.fault.Fault.TheVariants.{TooMany}
 use Rattle.lists.specs.declared.words.Mark.TheVariants.{Blank, Word, LineEnd}
@@ -20,7 +24,7 @@ use Rattle.lists.specs.declared.rows.Line.TheVariants.{Skipped}
 use Rattle.std.specs.Prelude.{Ok}
 use Rattle.lists.specs.declared.rows.RowsRead.{RowsRead}
 use Rattle.lists.specs.Words.{is_mark, parts_from, parts, before, lines, words}
-use Rattle.lists.specs.Rows.{says_range, says_placed, row_line, range_line, row_answer, read_fields, words_line, plain_line, read_line, Rows, Reading, given, faulty, with_row, with_line, read_lines, mark_size, range_of, rows_in}
+use Rattle.lists.specs.Rows.{says_range, says_placed, row_line, range_line, row_answer, read_fields, words_line, plain_line, read_line, Rows, Reading, given, faulty, with_row, with_line, read_lines, range_of, rows_in}
 use Rattle.lists.proofs.Parsing.{before-take, no_word, next_word}
 
 -- The length of a table of structs, whose entries the checker sees through a map.
@@ -114,9 +118,24 @@ lines_end form text at number reading h = rw (drop_of_length-le text h) (line-sk
 
 -- ---- the mark before a text
 
-pub short-mark : (text : List ℕ) → length text < 3 → mark_size text ≡ 0
-unfolding same_bytes
-short-mark text h =
-    let size = length-take 3 text in
-    let other : (length (take 3 text) ≡ 3) → ⊥ = λ e. omega arith in
-    rw (ne_eqb (length (take 3 text)) 3 other)
+pub mark-begins : (text : List ℕ) → starts_with eqb text (239 ∷ 187 ∷ 191 ∷ []) ≡ same_bytes (take 3 text) (239 ∷ 187 ∷ 191 ∷ [])
+unfolding same_bytes every
+mark-begins [] = refl
+mark-begins (x ∷ []) = none (eqb 239 x)
+  where
+    none : (b : Bool) → b && false ≡ false
+    none true = refl
+    none false = refl
+mark-begins (x ∷ y ∷ []) = none (eqb 239 x) (eqb 187 y)
+  where
+    none : (a b : Bool) → a && (b && false) ≡ false
+    none true true = refl
+    none true false = refl
+    none false b = refl
+mark-begins (x ∷ y ∷ z ∷ text) = all (eqb 239 x) (eqb 187 y) (eqb 191 z) (eqb_swap 239 x) (eqb_swap 187 y) (eqb_swap 191 z)
+  where
+    all : (a b c : Bool) {d e f : Bool} → a ≡ d → b ≡ e → c ≡ f → a && (b && (c && true)) ≡ (((true && d) && e) && f)
+    all true true true p q r = rw (sym p, sym q, sym r) refl
+    all true true false p q r = rw (sym p, sym q, sym r) refl
+    all true false c p q r = rw (sym p, sym q) refl
+    all false b c p q r = rw (sym p) refl

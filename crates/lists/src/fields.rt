@@ -18,7 +18,8 @@ pub enum Form {
     Quanta,
 }
 
-// The numbers of a line; those that are missing are 0.
+// The numbers of a line; those that are missing are 0. Fields and no array: a record is made of a row field by field, and an index would
+// be no plainer.
 #[derive(Clone, Copy, Debug, PartialEq, Eq)]
 pub struct Row {
     pub first: u16,
@@ -39,86 +40,99 @@ impl Row {
     };
 }
 
+impl From<[u16; MOST]> for Row {
+    ghost from_gives = { λ numbers row. row ≡ row_of numbers };
+
+    fn from([first, second, third, fourth, fifth]: [u16; MOST]) -> Row {
+        Row {
+            first,
+            second,
+            third,
+            fourth,
+            fifth,
+        }
+    }
+}
+
 // The most fields of a line.
 const MOST: usize = 5;
 
-// The largest numbers, field by field.
-fn limits_of(form: Form) -> &'static [u16]
-    ensures { result.now ≡ limits_of form }
-{
-    match form {
-        Form::Job => &[255, 65535, 65535, 65535, 255],
-        Form::Setting => &[255, 255, 255, 255, 65535],
-        Form::Kernel => &[255, 255, 255, 255],
-        Form::Quanta => &[255, 255],
+impl Form {
+    // The largest numbers, field by field.
+    fn limits(self) -> &'static [u16]
+        ensures { result.now ≡ limits_of self }
+    {
+        match self {
+            Form::Job => &[255, 65535, 65535, 65535, 255],
+            Form::Setting => &[255, 255, 255, 255, 65535],
+            Form::Kernel => &[255, 255, 255, 255],
+            Form::Quanta => &[255, 255],
+        }
     }
-}
 
-fn needed_of(form: Form) -> usize
-    ensures { result ≡ needed_of form }
-{
-    match form {
-        Form::Job | Form::Setting | Form::Kernel => 4,
-        Form::Quanta => 2,
+    // How many fields there have to be.
+    fn needed(self) -> usize
+        ensures { result ≡ needed_of self }
+    {
+        match self {
+            Form::Job | Form::Setting | Form::Kernel => 4,
+            Form::Quanta => 2,
+        }
     }
-}
 
-fn count_fault(form: Form) -> Fault
-    ensures { result ≡ count_fault form }
-{
-    match form {
-        Form::Job => Fault::JobWords,
-        Form::Setting => Fault::SettingWords,
-        Form::Kernel => Fault::KernelWords,
-        Form::Quanta => Fault::RangeWords,
+    // What is wrong where there are fewer, or more than there are fields.
+    fn count_fault(self) -> Fault
+        ensures { result ≡ count_fault self }
+    {
+        match self {
+            Form::Job => Fault::JobWords,
+            Form::Setting => Fault::SettingWords,
+            Form::Kernel => Fault::KernelWords,
+            Form::Quanta => Fault::RangeWords,
+        }
     }
-}
 
-fn place_of(form: Form, i: usize) -> u8
-    requires { i < 5 }
-    ensures { result ≡ place_of form i }
-{
-    match form {
-        Form::Job | Form::Setting | Form::Kernel => i as u8 + 1,
-        Form::Quanta => i as u8 + 2,
+    // The place of field i among the words of its line, counted from 1: before a range stands its word.
+    fn place(self, i: usize) -> u8
+        requires { i < 5 }
+        ensures { result ≡ place_of self i }
+    {
+        match self {
+            Form::Job | Form::Setting | Form::Kernel => i as u8 + 1,
+            Form::Quanta => i as u8 + 2,
+        }
     }
-}
 
-// The limits that are told of larger numbers: those of an accepted job, setting, kernel record or range.
-fn told_of(form: Form) -> [u16; MOST]
-    ensures { result ≡ told_of form }
-{
-    match form {
-        Form::Job => [255, 60000, 60000, 60000, 255],
-        Form::Setting => [255, 8, 2, 64, 65535],
-        Form::Kernel => [255, 0, 255, 64, 0],
-        Form::Quanta => [64, 64, 0, 0, 0],
+    // The limits that are told of larger numbers: those of an accepted job, setting, kernel record or range.
+    fn told(self) -> [u16; MOST]
+        ensures { result ≡ told_of self }
+    {
+        match self {
+            Form::Job => [255, 60000, 60000, 60000, 255],
+            Form::Setting => [255, 8, 2, 64, 65535],
+            Form::Kernel => [255, 0, 255, 64, 0],
+            Form::Quanta => [64, 64, 0, 0, 0],
+        }
     }
-}
 
-fn told_at(form: Form, i: usize) -> u16
-    requires { i < 5 }
-    ensures { result ≡ get_or (told_of form) i 0 }
-{
-    let told = told_of(form);
-    told[i]
-}
-
-fn is_named(form: Form, i: usize) -> bool
-    ensures { result ≡ is_named form i }
-{
-    match form {
-        Form::Setting => i == 2,
-        Form::Job | Form::Kernel | Form::Quanta => false,
+    // Whether field i is a policy that may have its name.
+    fn is_named(self, i: usize) -> bool
+        ensures { result ≡ is_named self i }
+    {
+        match self {
+            Form::Setting => i == 2,
+            Form::Job | Form::Kernel | Form::Quanta => false,
+        }
     }
-}
 
-fn is_name_only(form: Form, i: usize) -> bool
-    ensures { result ≡ is_name_only form i }
-{
-    match form {
-        Form::Kernel => i == 1,
-        Form::Job | Form::Setting | Form::Quanta => false,
+    // Whether field i is a policy that has its name alone.
+    fn is_name_only(self, i: usize) -> bool
+        ensures { result ≡ is_name_only self i }
+    {
+        match self {
+            Form::Kernel => i == 1,
+            Form::Job | Form::Setting | Form::Quanta => false,
+        }
     }
 }
 
@@ -153,26 +167,15 @@ fn read_word(form: Form, i: usize, limit: u16, word: &[u8]) -> Result<u16, Fault
     requires { i < 5 }
     ensures { result ≡ word_of form i limit word.now }
 {
-    if is_name_only(form, i) {
+    if form.is_name_only(i) {
         return policy_named(word);
     }
-    let number = words::read_number(word, place_of(form, i), told_at(form, i), limit);
-    if is_named(form, i) {
+    let told = form.told();
+    let number = words::read_number(word, form.place(i), told[i], limit);
+    if form.is_named(i) {
         return policy_or(word, number);
     }
     number
-}
-
-fn row_of(numbers: [u16; MOST]) -> Row
-    ensures { result ≡ row_of numbers }
-{
-    Row {
-        first: numbers[0],
-        second: numbers[1],
-        third: numbers[2],
-        fourth: numbers[3],
-        fifth: numbers[4],
-    }
 }
 
 // The fields of a line from a place on.
@@ -182,20 +185,20 @@ pub(crate) fn read_fields(form: Form, content: &[u8], from: usize) -> Result<Row
 {
     let mut numbers = [0u16; MOST];
     let mut at = from;
-    for (i, limit) in limits_of(form).iter().enumerate() {
+    for (i, limit) in form.limits().iter().enumerate() {
         let start = words::find(Mark::Word, content, at);
         if start == content.len() {
-            if i < needed_of(form) {
-                return Err(count_fault(form));
+            if i < form.needed() {
+                return Err(form.count_fault());
             }
-            return Ok(row_of(numbers));
+            return Ok(Row::from(numbers));
         }
         let end = words::find(Mark::Blank, content, start);
         numbers[i] = read_word(form, i, *limit, &content[start..end])?;
         at = end;
     }
     if words::find(Mark::Word, content, at) < content.len() {
-        return Err(count_fault(form));
+        return Err(form.count_fault());
     }
-    Ok(row_of(numbers))
+    Ok(Row::from(numbers))
 }

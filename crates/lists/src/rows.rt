@@ -42,21 +42,25 @@ pub struct RowsRead {
     pub range: Option<SaidRange>,
 }
 
-fn says_range(form: Form, word: &[u8]) -> bool
-    ensures { result ≡ says_range form word.now }
-{
-    match form {
-        Form::Job => same_bytes(word, b"quanta"),
-        Form::Setting | Form::Kernel | Form::Quanta => false,
+impl Form {
+    // Whether this first word begins a line that says a range.
+    fn says_range(self, word: &[u8]) -> bool
+        ensures { result ≡ says_range self word.now }
+    {
+        match self {
+            Form::Job => same_bytes(word, b"quanta"),
+            Form::Setting | Form::Kernel | Form::Quanta => false,
+        }
     }
-}
 
-fn says_placed(form: Form, word: &[u8]) -> bool
-    ensures { result ≡ says_placed form word.now }
-{
-    match form {
-        Form::Setting => same_bytes(word, b"placed"),
-        Form::Job | Form::Kernel | Form::Quanta => false,
+    // Whether this first word begins the last line of a key.
+    fn says_placed(self, word: &[u8]) -> bool
+        ensures { result ≡ says_placed self word.now }
+    {
+        match self {
+            Form::Setting => same_bytes(word, b"placed"),
+            Form::Job | Form::Kernel | Form::Quanta => false,
+        }
     }
 }
 
@@ -69,14 +73,14 @@ fn read_content(form: Form, content: &[u8]) -> Result<Line, Fault>
         return Ok(Line::Skipped);
     }
     let end = words::find(Mark::Blank, content, start);
-    if says_range(form, &content[start..end]) {
+    if form.says_range(&content[start..end]) {
         let row = fields::read_fields(Form::Quanta, content, end)?;
         return Ok(Line::RangeOf(SaidRange {
             low: row.first,
             high: row.second,
         }));
     }
-    if says_placed(form, &content[start..end]) {
+    if form.says_placed(&content[start..end]) {
         return Ok(Line::Skipped);
     }
     let row = fields::read_fields(form, content, 0)?;
@@ -166,13 +170,11 @@ fn past(text: &[u8], end: usize) -> usize
 fn mark_size(text: &[u8]) -> usize
     ensures { (result ≡ mark_size text.now) × (result ≤ length text.now) }
 {
-    if text.len() < 3 {
-        return 0;
+    if text.starts_with(&[0xEF, 0xBB, 0xBF]) {
+        3
+    } else {
+        0
     }
-    if same_bytes(&text[..3], &[0xEF, 0xBB, 0xBF]) {
-        return 3;
-    }
-    0
 }
 
 // Reads a text of rows.
@@ -182,6 +184,7 @@ pub fn read_rows(form: Form, text: &[u8]) -> Result<RowsRead, FaultyLine>
     let mut read = RowsRead::NONE;
     let mut passed = 0;
     let mut place = mark_size(text);
+    // No index that is counted: the place goes from one line's start to the next one's.
     while place < text.len() {
         let end = words::find(Mark::LineEnd, text, place);
         let number = passed + 1;

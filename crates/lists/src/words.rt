@@ -1,5 +1,5 @@
 // Words of a text: where they start and end, and the numbers that they stand for.
-ghost use Rattle.std.specs.Prelude.{◌≡◌, ◌+◌, min, length, drop, position};
+ghost use Rattle.std.specs.Prelude.{◌≡◌, ◌+◌, length, drop, position};
 ghost use Rattle.lists.specs.Words.{is_blank, is_mark, before, number_of};
 
 use crate::fault::Fault;
@@ -51,14 +51,6 @@ pub fn find(mark: Mark, text: &[u8], from: usize) -> usize
     }
 }
 
-// A number, or one above the limit for every larger number.
-fn capped(value: u32, limit: u16) -> u32
-    ensures { result ≡ min value (limit + 1) }
-{
-    let most = limit as u32 + 1;
-    if value < most { value } else { most }
-}
-
 // A word as a number of at most `limit`; `place` is the word's in its line, `told` the limit that is told of a larger number. No entry.
 pub fn read_number(word: &[u8], place: u8, told: u16, limit: u16) -> Result<u16, Fault>
     ensures { result ≡ number_of place told limit word.now }
@@ -68,7 +60,8 @@ pub fn read_number(word: &[u8], place: u8, told: u16, limit: u16) -> Result<u16,
         if !byte.is_ascii_digit() {
             return Err(Fault::NotANumber(place));
         }
-        value = capped(value * 10 + (*byte - b'0') as u32, limit);
+        // Past the limit it does not matter by how much.
+        value = (value * 10 + (*byte - b'0') as u32).min(limit as u32 + 1);
     }
     if (limit as u32) < value {
         return Err(Fault::TooLarge(place, told));

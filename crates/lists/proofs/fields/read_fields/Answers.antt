@@ -19,19 +19,19 @@ use Rattle.lists.proofs.fields.read_fields.Goals.{After-find-end, After-read_wor
 pub loop-i-init : goal.loop-i-init
 loop-i-init c = (search rules, ([], refl, refl, refl))
 
-pub returns-then-i-needed_of : goal.returns-then-i-needed_of
-returns-then-i-needed_of c =
+pub returns-then-i-needed : goal.returns-then-i-needed
+returns-then-i-needed c =
     let w = c.loop-i.invariant.1 in
     let a = c.args in
     ap Err c.count_fault.ensures
-    ∙ ap row_answer (sym (too_few a.form a.content.now c.loop-i.at c.loop-i.i w.0 c.loop-i.invariant.0 w.1 _ c.find-start.ensures (omega (arith, c.if-start-content.true)) (omega (arith, c.loop-i-test.true, ap length c.limits_of-limit-items.ensures)) (omega (arith, c.if-i-needed_of.true, c.needed_of.ensures))) ∙ w.3)
+    ∙ ap row_answer (sym (too_few a.form a.content.now c.loop-i.at c.loop-i.i w.0 c.loop-i.invariant.0 w.1 _ c.find-start.ensures (omega (arith, c.if-start-content.true)) (omega (arith, c.loop-i-test.true, ap length c.limits-limit-items.ensures)) (omega (arith, c.if-i-needed.true, c.needed.ensures))) ∙ w.3)
 
 pub returns-then-start-content : goal.returns-then-start-content
 returns-then-start-content c =
     let w = c.loop-i.invariant.1 in
     let a = c.args in
-    ap Ok (c.row_of.ensures ∙ ap row_of w.2 ∙ row-table w.0)
-    ∙ ap row_answer (sym (enough a.form a.content.now c.loop-i.at c.loop-i.i w.0 c.loop-i.invariant.0 w.1 _ c.find-start.ensures (omega (arith, c.if-start-content.true)) (omega (arith, c.loop-i-test.true, ap length c.limits_of-limit-items.ensures)) (omega (arith, c.if-i-needed_of.false, c.needed_of.ensures))) ∙ w.3)
+    ap Ok (c.from.ensures ∙ ap row_of w.2 ∙ row-table w.0)
+    ∙ ap row_answer (sym (enough a.form a.content.now c.loop-i.at c.loop-i.i w.0 c.loop-i.invariant.0 w.1 _ c.find-start.ensures (omega (arith, c.if-start-content.true)) (omega (arith, c.loop-i-test.true, ap length c.limits-limit-items.ensures)) (omega (arith, c.if-i-needed.false, c.needed.ensures))) ∙ w.3)
 
 -- A field that the form has, and a word for it.
 module _ (c : After-find-end) where
@@ -42,7 +42,7 @@ module _ (c : After-find-end) where
   content = c.args.content.now
 
   in-fields : c.loop-i.i < length (limits_of form)
-  in-fields = omega (arith, c.loop-i-test.true, ap length c.limits_of-limit-items.ensures)
+  in-fields = omega (arith, c.loop-i-test.true, ap length c.limits-limit-items.ensures)
 
   in_table : c.loop-i.i < 5
   in_table = omega (arith, in-fields, few-fields form)
@@ -70,7 +70,7 @@ module _ (c : After-read_word) where
   word_read : c.read_word.result ≡ word_of form' i (get_or (limits_of form') i 0) (take (c.find-end.result - c.find-start.result) (drop c.find-start.result (content (goal.at.After-read_word c).After-find-end)))
   word_read =
       c.read_word.ensures
-      ∙ ap (λ (t : List ℕ). word_of form' i (get_or t i 0) (take (c.find-end.result - c.find-start.result) (drop c.find-start.result (content (goal.at.After-read_word c).After-find-end)))) c.limits_of-limit-items.ensures
+      ∙ ap (λ (t : List ℕ). word_of form' i (get_or t i 0) (take (c.find-end.result - c.find-start.result) (drop c.find-start.result (content (goal.at.After-read_word c).After-find-end)))) c.limits-limit-items.ensures
 
 pub returns-in_err-numbers : goal.returns-in_err-numbers
 returns-in_err-numbers c =
@@ -102,11 +102,11 @@ returns-then-find-content c =
     let w = c.loop-i.invariant.1 in
     let a = c.args in
     ap Err c.count_fault-then-find-content.ensures
-    ∙ ap row_answer (sym (too_many a.form a.content.now c.loop-i.at c.loop-i.i w.0 c.loop-i.invariant.0 w.1 _ c.find.ensures c.if-find-content.true (omega (arith, c.loop-i-test.false, ap length c.limits_of-limit-items.ensures))) ∙ w.3)
+    ∙ ap row_answer (sym (too_many a.form a.content.now c.loop-i.at c.loop-i.i w.0 c.loop-i.invariant.0 w.1 _ c.find.ensures c.if-find-content.true (omega (arith, c.loop-i-test.false, ap length c.limits-limit-items.ensures))) ∙ w.3)
 
 pub returns : goal.returns
 returns c =
     let w = c.loop-i.invariant.1 in
     let a = c.args in
-    ap Ok (c.row_of-2.ensures ∙ ap row_of w.2 ∙ row-table w.0)
-    ∙ ap row_answer (sym (all_read a.form a.content.now c.loop-i.at c.loop-i.i w.0 c.loop-i.invariant.0 w.1 _ c.find.ensures (omega (arith, c.if-find-content.false)) (omega (arith, c.loop-i-test.false, ap length c.limits_of-limit-items.ensures))) ∙ w.3)
+    ap Ok (c.from-2.ensures ∙ ap row_of w.2 ∙ row-table w.0)
+    ∙ ap row_answer (sym (all_read a.form a.content.now c.loop-i.at c.loop-i.i w.0 c.loop-i.invariant.0 w.1 _ c.find.ensures (omega (arith, c.if-find-content.false)) (omega (arith, c.loop-i-test.false, ap length c.limits-limit-items.ensures))) ∙ w.3)

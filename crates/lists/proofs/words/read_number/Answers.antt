@@ -4,7 +4,7 @@ use mathlib.Core.Bool.{true}
 use native.Mathlib.Omega.{arith}
 use lib.ListN.{length, get_or, drop}
 use borrow.Author.Rules.{rules}
-use borrow.Author.Tests.{not-true, not-false, le-leb, lt-leb}
+use borrow.Author.Tests.{le-leb, lt-leb}
 use Rattle.lists.specs.Decimals.{digit}
 use Rattle.lists.specs.Words.{is_digit, number_of}
 use Rattle.lists.proofs.Parsing.{number-next, number-stop, number-end, number-capped, digit-range}
@@ -19,7 +19,7 @@ unfolding number_of
 returns-then-not-is_ascii_digit c =
     let a = c.args in
     let h : c.loop-byte.byte-index < length a.word.now = omega arith in
-    sym (number-stop a.place a.told a.limit c.loop-byte.value a.word.now c.loop-byte.byte-index h (sym c.is_ascii_digit.ensures.value ∙ not-true _ c.if-not-is_ascii_digit.true-raw)) ∙ c.loop-byte.invariant.1
+    sym (number-stop a.place a.told a.limit c.loop-byte.value a.word.now c.loop-byte.byte-index h (sym c.is_ascii_digit.ensures.value ∙ c.if-not-is_ascii_digit.true)) ∙ c.loop-byte.invariant.1
 
 -- Past a byte that is a digit.
 module _ (c : Else-not-is_ascii_digit) where
@@ -27,7 +27,7 @@ module _ (c : Else-not-is_ascii_digit) where
   byte = get_or c.args.word.now c.loop-byte.byte-index 0
 
   is : is_digit byte ≡ true
-  is = sym c.is_ascii_digit.ensures.value ∙ not-false _ c.if-not-is_ascii_digit.false-raw
+  is = sym c.is_ascii_digit.ensures.value ∙ c.if-not-is_ascii_digit.false
 
   range : (digit 0 ≤ byte) × (byte ≤ digit 9)
   range = digit-range byte is
@@ -48,8 +48,8 @@ loop-byte-preserved c =
     let i = c.loop-byte.byte-index in
     let h : i < length word = omega arith in
     let n = c.loop-byte.value * 10 + (get_or word i 0 - digit 0) in
-    let same : min c.capped-value.result (a.limit + 1) ≡ min n (a.limit + 1) = omega (arith, c.capped-value.ensures) in
-    (omega (arith, c.capped-value.ensures), number-capped a.place a.told a.limit c.capped-value.result n same (drop (i + 1) word) ∙ sym (number-next a.place a.told a.limit c.loop-byte.value word i h (is (goal.at.loop-byte-preserved c).Else-not-is_ascii_digit)) ∙ c.loop-byte.invariant.1)
+    let same : min c.min-value.result (a.limit + 1) ≡ min n (a.limit + 1) = omega (arith, c.min-value.ensures) in
+    (omega (arith, c.min-value.ensures), number-capped a.place a.told a.limit c.min-value.result n same (drop (i + 1) word) ∙ sym (number-next a.place a.told a.limit c.loop-byte.value word i h (is (goal.at.loop-byte-preserved c).Else-not-is_ascii_digit)) ∙ c.loop-byte.invariant.1)
 
 pub returns-then-limit-value : goal.returns-then-limit-value
 unfolding number_of
