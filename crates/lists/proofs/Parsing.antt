@@ -40,7 +40,7 @@ module _ (stop : ℕ → Bool) where
       by h false = omega arith
 
   -- Its length is the first place at which the test holds, or the length of the text.
-  before-length : (text : List ℕ) → length (before stop text) ≡ position_or_len stop text
+  pub before-length : (text : List ℕ) → length (before stop text) ≡ position_or_len stop text
   before-length [] = refl
   before-length (byte ∷ text) = by (before-length text) (stop byte)
     where

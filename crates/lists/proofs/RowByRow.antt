@@ -1,18 +1,20 @@
 -- Laws of the lines of a text, as a reader takes them one after the other. Assumes nothing.
 use Prim.Native.Nat.{ℕ, suc, ◌+◌, ◌-◌, ◌≤◌, ◌<◌}
 use mathlib.Core.Path.{◌≡◌, refl, sym, ap, ap₂, ◌∙◌}
-use mathlib.Core.Bool.{Bool, true, false, cond, ◌&&◌}
+use mathlib.Core.Bool.{Bool, true, false, cond, not, ◌&&◌}
 use mathlib.Core.List.{List, [], ◌∷◌, ◌++◌, map, append_assoc, append-nil}
 use native.Mathlib.Numerals.{add-one}
 use native.Mathlib.Omega.{arith}
-use lib.ListN.{length, take, drop, set, length-take, length-map, drop_of_length-le}
-use lib.Seq.{drop-drop, length-take-le, take-suc-set}
+use lib.ListN.{length, length-append, take, drop, set, length-take, length-map, drop_of_length-le}
+use lib.Seq.{take_all, take_at, length-take-le, take-suc-set}
 use borrow.Author.Tests.{lt-ltb, le-ltb}
 use Rattle.records.specs.Limits.{most_jobs}
 use Rattle.sets.specs.Places.{every}
 use Rattle.sets.proofs.Members.{eqb_swap}
 use Rattle.same_bytes.specs.Same.{same_bytes}
-use Rattle.std.specs.List.{starts_with}
+use Rattle.std.specs.Bool.{MatchBool}
+use Rattle.std.specs.List.{starts_with, IsFirstMatchOrLen}
+use Rattle.std.proofs.lemmas.List.Sums.{prefix_len_is}
 use lib.Dec.{eqb}
 use Rattle.lists.specs.declared.fault.Fault.{Fault}
 use Rattle.lists.specs.declared.fault.Fault.TheVariants.{TooMany}
@@ -25,7 +27,7 @@ use Rattle.std.specs.Prelude.{Ok}
 use Rattle.lists.specs.declared.rows.RowsRead.{RowsRead}
 use Rattle.lists.specs.Words.{is_mark, parts_from, parts, before, lines, words}
 use Rattle.lists.specs.Rows.{says_range, says_placed, row_line, range_line, row_answer, read_fields, words_line, plain_line, read_line, Rows, Reading, given, faulty, with_row, with_line, read_lines, range_of, rows_in}
-use Rattle.lists.proofs.Parsing.{before-take, no_word, next_word}
+use Rattle.lists.proofs.Parsing.{before-take, before-length, no_word, next_word}
 
 -- The length of a table of structs, whose entries the checker sees through a map.
 pub unmapped : (X Y : Type 0) (f : X → Y) (l : List X) (n : ℕ) → length (map f l) ≡ n → length l ≡ n
@@ -98,23 +100,50 @@ module _ (form : Form) (feed : ℕ → Bool) where
       by h true = rw append-nil
       by h false = h ∙ rw append_assoc
 
--- The line from `at` to `end`, and those from `next` on.
-pub lines_next : (form : Form) (text : List ℕ) (at end next number : ℕ) (reading : Reading Rows) → end ≡ at + length (before (is_mark LineEnd) (drop at text))
-    → drop next text ≡ drop (end + 1) text
-    → read_lines form number reading (lines (drop at text)) ≡ read_lines form (number + 1) (with_line number (read_line form (take (end - at) (drop at text))) reading) (lines (drop next text))
-lines_next form text at end next number reading e f =
-    let long = length (before (is_mark LineEnd) (drop at text)) in
-    let size : long ≡ end - at = omega arith in
-    let past : at + suc long ≡ end + 1 = omega arith in
-    lines_from form (is_mark LineEnd) number reading [] (drop at text)
-    ∙ ap₂ (λ (line rest : List ℕ). read_lines form (number + 1) (with_line number (read_line form line) reading) (lines rest))
-    (sym (before-take (is_mark LineEnd) (drop at text)) ∙ ap (λ (k : ℕ). take k (drop at text)) size)
-    (drop-drop (suc long) at text ∙ ap (λ (k : ℕ). drop k text) past ∙ sym f)
+-- The lines of what is left of a text, where there is one.
+abbrev pub lines_left : Bool → List ℕ → List (List ℕ)
+lines_left done rest = cond done [] (lines rest)
 
 -- Past the last byte there is nothing.
 pub lines_end : (form : Form) (text : List ℕ) (at number : ℕ) (reading : Reading Rows) → length text ≤ at → read_lines form number reading (lines (drop at text)) ≡ reading
 unfolding read_line plain_line
 lines_end form text at number reading h = rw (drop_of_length-le text h) (line-skipped number reading)
+
+-- ---- the parts that `split` gives
+
+-- The part that ends where the test first holds is what stands before that place.
+part-before : (stop : ℕ → Bool) (rest line : List ℕ) → take (length line) rest ≡ line → length line ≤ length rest → IsFirstMatchOrLen stop rest (length line) → before stop rest ≡ line
+part-before stop rest line e l first =
+    let size : length (before stop rest) ≡ length line =
+    before-length stop rest
+    ∙ prefix_len_is (λ x. not (stop x)) rest (length line) 0 l (λ k h. ap not (first.0 k 0 (omega arith) h)) (λ h. ap not (first.1 h 0))
+    in
+    sym (before-take stop rest) ∙ ap (λ (k : ℕ). take k rest) size ∙ e
+
+-- One part on.
+pub part-next : (form : Form) (number : ℕ) (reading : Reading Rows) (rest line after : List ℕ) (done : Bool) → IsFirstMatchOrLen (is_mark LineEnd) rest (length line)
+    → MatchBool done (rest ≡ line) ((y : ℕ) × (rest ≡ line ++ (y ∷ after)))
+    → read_lines form number reading (lines rest) ≡ read_lines form (number + 1) (with_line number (read_line form line) reading) (lines_left done after)
+part-next form number reading rest line after true first e =
+    let stands = part-before (is_mark LineEnd) rest line (ap (take (length line)) e ∙ take_all (length line) line (omega arith)) (omega (arith, ap length e)) first in
+    lines_from form (is_mark LineEnd) number reading [] rest
+    ∙ ap (λ (l : List ℕ). read_lines form (number + 1) (with_line number (read_line form l) reading) (lines (drop (suc (length l)) rest))) stands
+    ∙ lines_end form rest (suc (length line)) (number + 1) (with_line number (read_line form line) reading) (omega (arith, ap length e))
+part-next form number reading rest line after false first (y, e) =
+    let long = ap length e ∙ length-append line (y ∷ after) in
+    let stands = part-before (is_mark LineEnd) rest line (ap (take (length line)) e ∙ take_at line (y ∷ after) (length line) refl) (omega (arith, long)) first in
+    lines_from form (is_mark LineEnd) number reading [] rest
+    ∙ ap (λ (l : List ℕ). read_lines form (number + 1) (with_line number (read_line form l) reading) (lines (drop (suc (length l)) rest))) stands
+    ∙ ap (λ (l : List ℕ). read_lines form (number + 1) (with_line number (read_line form line) reading) (lines l)) (ap (drop (suc (length line))) e ∙ past line)
+  where
+    past : (l : List ℕ) → drop (suc (length l)) (l ++ (y ∷ after)) ≡ after
+    past [] = refl
+    past (x ∷ l) = past l
+
+-- What is left then is shorter.
+pub left-less : (rest line after : List ℕ) (done : Bool) → MatchBool done (rest ≡ line) ((y : ℕ) × (rest ≡ line ++ (y ∷ after))) → cond done 0 (length after + 1) ≤ length rest
+left-less rest line after true e = omega arith
+left-less rest line after false (y, e) = omega (arith, ap length e ∙ length-append line (y ∷ after))
 
 -- ---- the mark before a text
 

@@ -158,14 +158,6 @@ impl RowsRead {
     }
 }
 
-// The place after the end of a line: past its line feed, where it has one.
-fn past(text: &[u8], end: usize) -> usize
-    requires { end ≤ length text.now }
-    ensures { (result ≤ length text.now) × (drop result text.now ≡ drop (end + 1) text.now) }
-{
-    if end < text.len() { end + 1 } else { end }
-}
-
 // The size of the mark that stands before a text, where there is one.
 fn mark_size(text: &[u8]) -> usize
     ensures { (result ≡ mark_size text.now) × (result ≤ length text.now) }
@@ -182,20 +174,15 @@ pub fn read_rows(form: Form, text: &[u8]) -> Result<RowsRead, FaultyLine>
     ensures { rows_outcome result ≡ read_text form text.now }
 {
     let mut read = RowsRead::NONE;
-    let mut passed = 0;
-    let mut place = mark_size(text);
-    // No index that is counted: the place goes from one line's start to the next one's.
-    while place < text.len() {
-        let end = words::find(Mark::LineEnd, text, place);
-        let number = passed + 1;
-        if let Err(fault) = read.take_line(form, number, &text[place..end]) {
+    let mut number = 0;
+    for line in text[mark_size(text)..].split(|byte| *byte == b'\n') {
+        number += 1;
+        if let Err(fault) = read.take_line(form, number, line) {
             return Err(FaultyLine {
                 line: number,
                 fault,
             });
         }
-        passed = number;
-        place = past(text, end);
     }
     Ok(read)
 }
