@@ -14,6 +14,7 @@ use records::refusal::Counted;
 pub const SIZE: usize = Job::SIZE * Job::MOST;
 
 // The records of a text as a block, whose size is given, with the number of each record's line, and the range that the text says.
+// Memory is fixed, so a count and a size say how much is used.
 #[derive(Clone, Copy)]
 pub struct BlockRead {
     pub count: usize,

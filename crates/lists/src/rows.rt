@@ -32,8 +32,8 @@ pub struct FaultyLine {
     pub fault: Fault,
 }
 
-// The rows of a text, each with the number of its line, and the range that it says. Rows and numbers are two tables, since they part: the
-// rows become records, and the numbers name these.
+// The rows of a text, each with the number of its line, and the range that it says. Memory is fixed, so a count says how many entries of a
+// table are used. Rows and numbers are two tables, since they part: the rows become records, and the numbers name these.
 #[derive(Clone, Copy)]
 pub struct RowsRead {
     pub count: usize,

@@ -20,7 +20,7 @@ pub trait FromRow: Copy {
 
     ghost from: { Row → Self };
 
-    // An entry of a table that no row stands behind.
+    // An entry of a table past its rows.
     const BLANK: Self;
 
     fn from_row(row: Row) -> Self
