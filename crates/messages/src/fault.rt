@@ -34,20 +34,21 @@ fn fault_numbers(fault: Fault) -> [u32; writing::MOST]
     ensures { result ≡ table 8 0 (fault_numbers fault) }
 {
     match fault {
-        Fault::NotANumber(place) => [place as u32, 0, 0, 0, 0, 0, 0, 0],
-        Fault::TooLarge(place, limit) => [place as u32, limit as u32, 0, 0, 0, 0, 0, 0],
-        Fault::NotAPolicy => [0; writing::MOST],
-        Fault::NotAPolicyName => [0; writing::MOST],
-        Fault::LoneReturn => [0; writing::MOST],
-        Fault::JobWords => [0; writing::MOST],
-        Fault::SettingWords => [0; writing::MOST],
-        Fault::KernelWords => [0; writing::MOST],
-        Fault::RangeWords => [0; writing::MOST],
-        Fault::TooMany => [0; writing::MOST],
-        Fault::SecondRange => [0; writing::MOST],
+        Fault::NotANumber(place) => [u32::from(place), 0, 0, 0, 0, 0, 0, 0],
+        Fault::TooLarge(place, limit) => [u32::from(place), u32::from(limit), 0, 0, 0, 0, 0, 0],
+        Fault::NotAPolicy
+        | Fault::NotAPolicyName
+        | Fault::LoneReturn
+        | Fault::JobWords
+        | Fault::SettingWords
+        | Fault::KernelWords
+        | Fault::RangeWords
+        | Fault::TooMany
+        | Fault::SecondRange => [0; writing::MOST],
     }
 }
 
+// No Display: a template says each text byte by byte, and a Formatter would have to say them once more.
 fn put_message(output: &mut [u8], at: usize, fault: Fault) -> usize
     requires { at + 600 ≤ length output.old }
     ensures { Wrote 600 output.old output.new at result (message fault) }
