@@ -7,13 +7,14 @@ use native.Mathlib.Omega.{arith}
 use borrow.Author.Tests.{le-leb}
 use lib.ListN.{length, take, length-map}
 use lib.Seq.{take_at}
+use Rattle.std.specs.Prelude.{Result, Ok, Err}
+use Rattle.std.specs.Result.{result_unwrap_or}
 use Rattle.records.specs.Limits.{most_jobs}
-use Rattle.records.specs.Refusals.{Answer, refused, given as gives, counted}
+use Rattle.records.specs.Refusals.{Answer, refused, given as gives, number, counted}
 use Rattle.records.specs.Records.{flat, written, write_records}
 use Rattle.records.specs.Jobs.{job_size, job_bytes, bytes_of}
 use Rattle.records.specs.declared.job.Job.{Job}
-use Rattle.records.specs.declared.refusal.Counted.{Counted}
-use Rattle.records.specs.declared.refusal.Counted.TheVariants.{Count, Refused}
+use Rattle.records.specs.declared.refusal.Refusal.{Refusal}
 use Rattle.records.proofs.FixedWidth.{length-flat}
 use Rattle.records.proofs.JobRecords.{job-width}
 use Rattle.configuration.specs.Settings.{setting_size, setting_bytes}
@@ -27,16 +28,8 @@ use Rattle.lists.specs.declared.fields.Form.TheVariants.{Job as JobForm, Setting
 use Rattle.lists.specs.declared.fields.Row.{Row}
 use Rattle.lists.specs.Rows.{given, read_text}
 use Rattle.lists.specs.Lists.{job_from, setting_from, kernel_from, list_text, configuration_text, kernels_text, JobFits, SettingFits, KernelFits, RangeFits, AllFit}
-use Rattle.lists.specs.Blocks.{block_of, block_reading, Handed, put_rows, size_of}
+use Rattle.lists.specs.Blocks.{block_of, block_reading, Handed, put_rows}
 use Rattle.lists.proofs.TextTrip.{list_back, configuration-back, kernels-text-back}
-
-abbrev size-told : Answer ℕ → ℕ
-size-told (refused k) = 0
-size-told (gives n) = n
-
-sized : (wrote : Counted) → size_of wrote ≡ size-told (counted wrote)
-sized (Count n) = refl
-sized (Refused refusal) = refl
 
 -- What a writer of records leaves at the start of an output with room for them.
 module _ {A : Type 0} (w : ℕ) (bytes : A → List ℕ) (width : (a : A) → length (bytes a) ≡ w) (xs : List A) (output : List ℕ) (room : w * length xs ≤ length output) where
@@ -44,15 +37,17 @@ module _ {A : Type 0} (w : ℕ) (bytes : A → List ℕ) (width : (a : A) → le
   unfolding write_records
   fits = simp (le-leb (w * length xs) (length output) room)
 
-  wrote-block : (wrote : Counted) (after : List ℕ) → (counted wrote, after) ≡ write_records w bytes xs output → (take (size_of wrote) after ≡ flat bytes xs) × (size_of wrote ≡ w * length xs)
-  wrote-block wrote after e =
-      let size : size_of wrote ≡ w * length xs = sized wrote ∙ ap (λ (x : Answer ℕ × List ℕ). size-told x.0) (e ∙ fits) in
+  wrote-block : (wrote : Result ℕ Refusal) (after : List ℕ) → (counted wrote, after) ≡ write_records w bytes xs output
+      → (take (result_unwrap_or wrote 0) after ≡ flat bytes xs) × (result_unwrap_or wrote 0 ≡ w * length xs)
+  wrote-block (Ok n) after e =
+      let size : n ≡ w * length xs = let s : gives n ≡ gives (w * length xs) = ap (λ (x : Answer ℕ × List ℕ). x.0) (e ∙ fits) in cc in
       let all : after ≡ written w bytes xs output = ap (λ (x : Answer ℕ × List ℕ). x.1) (e ∙ fits) in
       (rw (size, all) (take_at (flat bytes xs) _ (w * length xs) (length-flat bytes w width xs)), size)
+  wrote-block (Err refusal) after e = absurd (let s : refused (number refusal) ≡ gives (w * length xs) = ap (λ (x : Answer ℕ × List ℕ). x.0) (e ∙ fits) in cc)
 
 -- The same of the rows of a form.
-pub rows-block : (form : Form) (rows : List Row) (output : List ℕ) → length rows ≤ most_jobs → length output ≡ 64 → (wrote : Counted) (after : List ℕ) → (counted wrote, after) ≡ put_rows form rows output
-    → (take (size_of wrote) after ≡ block_of form rows) × (size_of wrote ≤ 64)
+pub rows-block : (form : Form) (rows : List Row) (output : List ℕ) → length rows ≤ most_jobs → length output ≡ 64 → (wrote : Result ℕ Refusal) (after : List ℕ)
+    → (counted wrote, after) ≡ put_rows form rows output → (take (result_unwrap_or wrote 0) after ≡ block_of form rows) × (result_unwrap_or wrote 0 ≤ 64)
 rows-block JobForm rows output few long wrote after e =
     let count = length-map rows job_from in
     let w = wrote-block job_size job_bytes job-width (map job_from rows) output (omega (arith, count)) wrote after e in
@@ -65,10 +60,8 @@ rows-block KernelForm rows output few long wrote after e =
     let count = length-map rows kernel_from in
     let w = wrote-block kernel_size kernel_bytes kernel-width (map kernel_from rows) output (omega (arith, count)) wrote after e in
     (w.0, omega (arith, w.1, count))
-rows-block Quanta rows output few long wrote after e = none (sized wrote ∙ ap (λ (x : Answer ℕ × List ℕ). size-told x.0) e)
-  where
-    none : size_of wrote ≡ 0 → (take (size_of wrote) after ≡ []) × (size_of wrote ≤ 64)
-    none z = (rw z refl, omega arith)
+rows-block Quanta rows output few long (Ok n) after e = let z : n ≡ 0 = let s : gives n ≡ gives 0 = ap (λ (x : Answer ℕ × List ℕ). x.0) e in cc in (rw z refl, omega (arith, z))
+rows-block Quanta rows output few long (Err refusal) after e = (refl, omega arith)
 
 -- ---- the text of a list, of a configuration or of kernel records has its block
 

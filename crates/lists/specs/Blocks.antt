@@ -4,8 +4,6 @@ use Rattle.std.proofs.Math.Option.{Option}
 use Rattle.records.specs.Refusals.{Answer, given as gives}
 use Rattle.records.specs.Records.{flat, write_records}
 use Rattle.records.specs.Jobs.{job_size, job_bytes}
-use Rattle.records.specs.declared.refusal.Counted.{Counted}
-use Rattle.records.specs.declared.refusal.Counted.TheVariants.{Count, Refused}
 use Rattle.configuration.specs.Settings.{setting_size, setting_bytes}
 use Rattle.kernel.specs.KernelRecords.{kernel_size, kernel_bytes}
 use Rattle.lists.specs.declared.fields.Form.{Form}
@@ -41,11 +39,6 @@ put_rows Job rows output = write_records job_size job_bytes (map job_from rows) 
 put_rows Setting rows output = write_records setting_size setting_bytes (map setting_from rows) output
 put_rows Kernel rows output = write_records kernel_size kernel_bytes (map kernel_from rows) output
 put_rows Quanta rows output = (gives 0, output)
-
--- The size that a writer gives; 0 where it has no room.
-abbrev pub size_of : Counted → ℕ
-size_of (Count n) = n
-size_of (Refused refusal) = 0
 
 abbrev pub handed : BlockRead → Handed
 handed b = record { block = take b.size b.bytes; at = take b.count b.at; range = range_of b.range }

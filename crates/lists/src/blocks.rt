@@ -2,13 +2,17 @@
 ghost use Rattle.std.specs.Prelude.{◌≡◌, ◌≤◌, take, IfOk};
 ghost use Rattle.records.specs.Refusals.{counted};
 ghost use Rattle.lists.specs.Rows.{given, rows_in, read_text};
-ghost use Rattle.lists.specs.Blocks.{put_rows, size_of, handed, block_outcome, block_reading};
+ghost use Rattle.lists.specs.Blocks.{put_rows, handed, block_outcome, block_reading};
 
 use crate::fields::{Form, Row};
+use crate::rows;
 use crate::rows::{FaultyLine, RowsRead, SaidRange};
-use crate::{rows, tables};
+use crate::tables::table_from;
+use configuration::setting::Setting;
+use kernel::record::KernelRecord;
 use records::job::Job;
-use records::refusal::Counted;
+use records::record;
+use records::refusal::Refusal;
 
 // The longest block.
 pub const SIZE: usize = Job::SIZE * Job::MOST;
@@ -24,29 +28,21 @@ pub struct BlockRead {
     pub range: Option<SaidRange>,
 }
 
-// Writes the records of the first n rows.
-fn put_rows(form: Form, rows: [Row; Job::MOST], n: usize, output: &mut [u8]) -> Counted
+// Writes the records of rows.
+fn put_rows(
+    form: Form,
+    rows: [Row; Job::MOST],
+    n: usize,
+    output: &mut [u8],
+) -> Result<usize, Refusal>
     ensures { (counted result, output.new) ≡ put_rows form (take n rows) output.old }
 {
+    let count = Job::at_most(n);
     match form {
-        Form::Job => records::block::write_unjudged(tables::table_from(rows, n), n, &mut *output),
-        Form::Setting => {
-            configuration::block::write_settings(tables::table_from(rows, n), n, &mut *output)
-        }
-        Form::Kernel => {
-            kernel::block::write_kernels(tables::table_from(rows, n), n, &mut *output)
-        }
-        Form::Quanta => Counted::Count(0),
-    }
-}
-
-// The size that a writer with room for all records gives.
-fn size_of(wrote: Counted) -> usize
-    ensures { result ≡ size_of wrote }
-{
-    match wrote {
-        Counted::Count(size) => size,
-        Counted::Refused(_) => 0,
+        Form::Job => record::write(&table_from::<Job>(rows, n)[..count], &mut *output),
+        Form::Setting => record::write(&table_from::<Setting>(rows, n)[..count], &mut *output),
+        Form::Kernel => record::write(&table_from::<KernelRecord>(rows, n)[..count], &mut *output),
+        Form::Quanta => Ok(0),
     }
 }
 
@@ -57,11 +53,12 @@ fn of_rows(form: Form, read: RowsRead) -> BlockRead
     let rows = read.rows;
     let at = read.at;
     let mut bytes = [0u8; SIZE];
-    let wrote = put_rows(form, rows, read.count, &mut bytes);
+    // There is room for all records.
+    let size = put_rows(form, rows, read.count, &mut bytes).unwrap_or(0);
     BlockRead {
         count: read.count,
         bytes,
-        size: size_of(wrote),
+        size,
         at,
         range: read.range,
     }

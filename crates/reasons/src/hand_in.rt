@@ -7,6 +7,7 @@ use crate::reason;
 use crate::reason::{Reason, Sentence};
 use configuration::judge::SettingRule;
 use configuration::setting::Setting;
+use records::call::Call;
 use records::job::Job;
 use records::range::Range;
 
@@ -91,50 +92,30 @@ fn setting_reason_at(
     }
 }
 
-fn setting_reason(
-    rule: SettingRule,
-    jobs: [Job; Job::MOST],
-    settings: [Setting; Job::MOST],
-    n: usize,
-    range: Range,
-) -> Reason
-    ensures { result ≡ setting_reason rule jobs settings n range.low range.high }
+fn setting_reason(rule: SettingRule, call: Call, settings: [Setting; Job::MOST]) -> Reason
+    ensures { result ≡ setting_reason rule call.jobs.table settings call.jobs.count call.range.low call.range.high }
 {
-    let count = Job::at_most(n);
-    let at = configuration::judge::first_faulty(rule, jobs, settings, n, range);
+    let jobs = call.jobs.table;
+    let count = Job::at_most(call.jobs.count);
+    let at = configuration::judge::first_faulty(rule, call, settings);
     if at < Job::MOST {
         let job = jobs[at];
         let setting = settings[at];
-        return setting_reason_at(rule, at, count, range, job, setting);
+        return setting_reason_at(rule, at, count, call.range, job, setting);
     }
     reason::unknown()
 }
 
-// Why a configuration block of `size` bytes with these settings, for n jobs and a range, gets the refusal of this number. No entry.
-pub fn hand_in_reason(
-    number: u8,
-    size: u32,
-    jobs: [Job; Job::MOST],
-    settings: [Setting; Job::MOST],
-    n: usize,
-    range: Range,
-) -> Reason
-    ensures { result ≡ hand_in_reason number size jobs settings n range.low range.high }
+// Why a configuration block of `size` bytes with these settings, for a call's jobs and range, gets the refusal of this number. No entry.
+pub fn hand_in_reason(number: u8, size: u32, call: Call, settings: [Setting; Job::MOST]) -> Reason
+    ensures { result ≡ hand_in_reason number size call.jobs.table settings call.jobs.count call.range.low call.range.high }
 {
-    if number == 7 {
-        return count_reason(Sentence::SettingBytes, size, Job::at_most(n));
+    match number {
+        7 => count_reason(Sentence::SettingBytes, size, Job::at_most(call.jobs.count)),
+        8 => setting_reason(SettingRule::Id, call, settings),
+        9 => setting_reason(SettingRule::Shape, call, settings),
+        10 => setting_reason(SettingRule::Sharing, call, settings),
+        11 => setting_reason(SettingRule::Placed, call, settings),
+        _ => reason::unknown(),
     }
-    if number == 8 {
-        return setting_reason(SettingRule::Id, jobs, settings, n, range);
-    }
-    if number == 9 {
-        return setting_reason(SettingRule::Shape, jobs, settings, n, range);
-    }
-    if number == 10 {
-        return setting_reason(SettingRule::Sharing, jobs, settings, n, range);
-    }
-    if number == 11 {
-        return setting_reason(SettingRule::Placed, jobs, settings, n, range);
-    }
-    reason::unknown()
 }

@@ -9,6 +9,7 @@ use configuration::setting::Setting;
 use kernel::judge::KernelRule;
 use kernel::priority::KernelPriority;
 use kernel::record::KernelRecord;
+use records::call::Call;
 use records::job::Job;
 use records::range::Range;
 
@@ -114,16 +115,16 @@ fn kernel_record_reason_at(
 
 fn kernel_record_reason(
     rule: KernelRule,
-    jobs: [Job; Job::MOST],
+    call: Call,
     kernels: [KernelRecord; Job::MOST],
-    n: usize,
-    range: Range,
     highest: KernelPriority,
 ) -> Reason
-    ensures { result ≡ kernel_record_reason rule jobs kernels n range.low range.high highest }
+    ensures { result ≡ kernel_record_reason rule call.jobs.table kernels call.jobs.count call.range.low call.range.high highest }
 {
-    let count = Job::at_most(n);
-    let at = kernel::judge::first_faulty(rule, jobs, kernels, n, range, highest);
+    let jobs = call.jobs.table;
+    let range = call.range;
+    let count = Job::at_most(call.jobs.count);
+    let at = kernel::judge::first_faulty(rule, call, kernels, highest);
     if at < Job::MOST {
         let job = jobs[at];
         let kernel = kernels[at];
@@ -132,33 +133,23 @@ fn kernel_record_reason(
     reason::unknown()
 }
 
-// Why a kernel block of `size` bytes with these records, for n jobs, a range and a highest priority, gets the refusal of this number. No
-// entry.
+// Why a kernel block of `size` bytes with these records, for a call's jobs and range and a highest priority, gets the refusal of this number.
+// No entry.
 pub fn kernel_reason(
     number: u8,
     size: u32,
-    jobs: [Job; Job::MOST],
+    call: Call,
     kernels: [KernelRecord; Job::MOST],
-    n: usize,
-    range: Range,
     highest: KernelPriority,
 ) -> Reason
-    ensures { result ≡ kernel_reason number size jobs kernels n range.low range.high highest }
+    ensures { result ≡ kernel_reason number size call.jobs.table kernels call.jobs.count call.range.low call.range.high highest }
 {
-    if number == 7 {
-        return hand_in::count_reason(Sentence::KernelBytes, size, Job::at_most(n));
+    match number {
+        7 => { hand_in::count_reason(Sentence::KernelBytes, size, Job::at_most(call.jobs.count)) }
+        8 => kernel_record_reason(KernelRule::Id, call, kernels, highest),
+        14 => kernel_record_reason(KernelRule::Top, call, kernels, highest),
+        9 => kernel_record_reason(KernelRule::Shape, call, kernels, highest),
+        10 => kernel_record_reason(KernelRule::Sharing, call, kernels, highest),
+        _ => reason::unknown(),
     }
-    if number == 8 {
-        return kernel_record_reason(KernelRule::Id, jobs, kernels, n, range, highest);
-    }
-    if number == 14 {
-        return kernel_record_reason(KernelRule::Top, jobs, kernels, n, range, highest);
-    }
-    if number == 9 {
-        return kernel_record_reason(KernelRule::Shape, jobs, kernels, n, range, highest);
-    }
-    if number == 10 {
-        return kernel_record_reason(KernelRule::Sharing, jobs, kernels, n, range, highest);
-    }
-    reason::unknown()
 }

@@ -5,7 +5,7 @@ use native.Mathlib.Omega.{arith}
 use lib.ListN.{length, take, length-take}
 use Rattle.records.specs.Limits.{most_jobs}
 use Rattle.lists.specs.Rows.{given, range_of}
-use Rattle.lists.specs.Blocks.{size_of}
+use Rattle.std.specs.Result.{result_unwrap_or}
 use Rattle.lists.proofs.Blocking.{rows-block}
 use Rattle.lists.proofs.RowByRow.{unmapped}
 use borrow.Author.Rules.{rules}
@@ -18,10 +18,10 @@ few c = let size : length c.args.read.rows ≡ most_jobs = search (rules, unmapp
 pub returns : goal.returns
 returns c =
     let read = c.args.read in
-    let b = rows-block c.args.form (take read.count read.rows) _ (few (goal.at.returns c).Start) (search rules) c.put_rows-wrote.result c.put_rows-wrote.new.output c.put_rows-wrote.ensures in
-    let small : size_of c.put_rows-wrote.result ≤ 64 = b.1 in
-    let size = c.size_of.ensures in (
+    let b = rows-block c.args.form (take read.count read.rows) _ (few (goal.at.returns c).Start) (search rules) c.put_rows.result c.put_rows.new.output c.put_rows.ensures in
+    let small : result_unwrap_or c.put_rows.result 0 ≤ 64 = b.1 in
+    let size = c.unwrap_or-size.ensures in (
       ap (λ (l : List ℕ). given (record { block = l; at = take read.count read.at; range = range_of read.range }))
-          (ap (λ (k : ℕ). take k c.put_rows-wrote.new.output) size ∙ b.0),
+          (ap (λ (k : ℕ). take k c.put_rows.new.output) size ∙ b.0),
       omega (arith, size, small),
     )

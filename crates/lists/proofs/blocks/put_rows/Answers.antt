@@ -6,6 +6,7 @@ use Rattle.records.specs.Records.{write_records}
 use Rattle.records.specs.Jobs.{job_size, job_bytes, blank_job}
 use Rattle.records.specs.declared.job.Job.{Job}
 use Rattle.records.proofs.Mapped.{table-listed}
+use Rattle.records.proofs.FixedWidth.{cut-take}
 use Rattle.configuration.specs.Settings.{setting_size, setting_bytes, blank_setting}
 use Rattle.configuration.specs.declared.setting.Setting.{Setting}
 use Rattle.kernel.specs.KernelRecords.{kernel_size, kernel_bytes, blank_kernel}
@@ -24,20 +25,20 @@ rows-size c = search (rules, unmapped)
 
 pub returns-in-Job : goal.returns-in-Job
 returns-in-Job c =
-    c.write_unjudged.ensures
-    ∙ ap (λ (l : List Job). write_records job_size job_bytes l c.args.output.now) (ap (take c.args.n) c.table_from.ensures ∙ table-listed job_from blank_job c.args.rows most_jobs (rows-size (goal.at.returns-in-Job c).Start) c.args.n)
+    c.write.ensures
+    ∙ ap (λ (l : List Job). write_records job_size job_bytes l c.args.output.now) (cut-take c.table_from.result most_jobs c.args.n c.at_most-count.result (search (rules, unmapped)) c.at_most-count.ensures ∙ ap (take c.args.n) c.table_from.ensures ∙ table-listed job_from blank_job c.args.rows most_jobs (rows-size (goal.at.returns-in-Job c).Start) c.args.n)
     ∙ sym (ap (λ (x : Form). put_rows x (take c.args.n c.args.rows) c.args.output.now) c.in-Job.is)
 
 pub returns-in-Setting : goal.returns-in-Setting
 returns-in-Setting c =
-    c.write_settings.ensures
-    ∙ ap (λ (l : List Setting). write_records setting_size setting_bytes l c.args.output.now) (ap (take c.args.n) c.table_from-in-Setting.ensures ∙ table-listed setting_from blank_setting c.args.rows most_jobs (rows-size (goal.at.returns-in-Setting c).Start) c.args.n)
+    c.write-in-Setting.ensures
+    ∙ ap (λ (l : List Setting). write_records setting_size setting_bytes l c.args.output.now) (cut-take c.table_from-in-Setting.result most_jobs c.args.n c.at_most-count.result (search (rules, unmapped)) c.at_most-count.ensures ∙ ap (take c.args.n) c.table_from-in-Setting.ensures ∙ table-listed setting_from blank_setting c.args.rows most_jobs (rows-size (goal.at.returns-in-Setting c).Start) c.args.n)
     ∙ sym (ap (λ (x : Form). put_rows x (take c.args.n c.args.rows) c.args.output.now) c.in-Setting.is)
 
 pub returns-in-Kernel : goal.returns-in-Kernel
 returns-in-Kernel c =
-    c.write_kernels.ensures
-    ∙ ap (λ (l : List KernelRecord). write_records kernel_size kernel_bytes l c.args.output.now) (ap (take c.args.n) c.table_from-in-Kernel.ensures ∙ table-listed kernel_from blank_kernel c.args.rows most_jobs (rows-size (goal.at.returns-in-Kernel c).Start) c.args.n)
+    c.write-in-Kernel.ensures
+    ∙ ap (λ (l : List KernelRecord). write_records kernel_size kernel_bytes l c.args.output.now) (cut-take c.table_from-in-Kernel.result most_jobs c.args.n c.at_most-count.result (search (rules, unmapped)) c.at_most-count.ensures ∙ ap (take c.args.n) c.table_from-in-Kernel.ensures ∙ table-listed kernel_from blank_kernel c.args.rows most_jobs (rows-size (goal.at.returns-in-Kernel c).Start) c.args.n)
     ∙ sym (ap (λ (x : Form). put_rows x (take c.args.n c.args.rows) c.args.output.now) c.in-Kernel.is)
 
 pub returns-in-Quanta : goal.returns-in-Quanta

@@ -1,30 +1,35 @@
-use mathlib.Core.Path.{ap, ◌∙◌}
-use borrow.Author.Tests.{eq-eqb, ne_eqb}
+use Prim.Native.Nat.{ℕ}
+use mathlib.Core.Path.{◌≡◌, sym, ap, ◌∙◌}
+use mathlib.Core.Bool.{false}
+use native.Mathlib.Omega.{arith}
+use lib.Dec.{eqb}
+use borrow.Author.Tests.{ne_eqb}
 use Rattle.reasons.specs.declared.reason.Sentence.TheVariants.{SettingBytes}
 use Rattle.reasons.specs.Reasons.{count_reason, hand_in_reason}
 use Rattle.reasons.proofs.hand_in.hand_in_reason.Goals as goal
 
-pub returns-then-number-eq7 : goal.returns-then-number-eq7
+pub returns-in-7 : goal.returns-in-7
 unfolding hand_in_reason
-returns-then-number-eq7 c =
-    c.count_reason.ensures ∙ ap (count_reason SettingBytes c.args.size) c.at_most.ensures ∙ simp (eq-eqb _ _ c.if-number-eq7.true)
+returns-in-7 c = rw c.in-7.is (c.count_reason.ensures ∙ ap (count_reason SettingBytes c.args.size) c.at_most.ensures)
 
-pub returns-then-number-eq8 : goal.returns-then-number-eq8
+pub returns-in-8 : goal.returns-in-8
 unfolding hand_in_reason
-returns-then-number-eq8 c = c.setting_reason.ensures ∙ simp (ne_eqb _ _ c.if-number-eq7.false, eq-eqb _ _ c.if-number-eq8.true)
+returns-in-8 c = rw c.in-8.is c.setting_reason.ensures
 
-pub returns-then-number-eq9 : goal.returns-then-number-eq9
+pub returns-in-9 : goal.returns-in-9
 unfolding hand_in_reason
-returns-then-number-eq9 c = c.setting_reason-then-number-eq9.ensures ∙ simp (ne_eqb _ _ c.if-number-eq7.false, ne_eqb _ _ c.if-number-eq8.false, eq-eqb _ _ c.if-number-eq9.true)
+returns-in-9 c = rw c.in-9.is c.setting_reason-in-9.ensures
 
-pub returns-then-number-eq10 : goal.returns-then-number-eq10
+pub returns-in-10 : goal.returns-in-10
 unfolding hand_in_reason
-returns-then-number-eq10 c = c.setting_reason-then-number-eq10.ensures ∙ simp (ne_eqb _ _ c.if-number-eq7.false, ne_eqb _ _ c.if-number-eq8.false, ne_eqb _ _ c.if-number-eq9.false, eq-eqb _ _ c.if-number-eq10.true)
+returns-in-10 c = rw c.in-10.is c.setting_reason-in-10.ensures
 
-pub returns-then-number-eq11 : goal.returns-then-number-eq11
+pub returns-in-11 : goal.returns-in-11
 unfolding hand_in_reason
-returns-then-number-eq11 c = c.setting_reason-then-number-eq11.ensures ∙ simp (ne_eqb _ _ c.if-number-eq7.false, ne_eqb _ _ c.if-number-eq8.false, ne_eqb _ _ c.if-number-eq9.false, ne_eqb _ _ c.if-number-eq10.false, eq-eqb _ _ c.if-number-eq11.true)
+returns-in-11 c = rw c.in-11.is c.setting_reason-in-11.ensures
 
-pub returns : goal.returns
+pub returns-in_default : goal.returns-in_default
 unfolding hand_in_reason
-returns c = c.unknown.ensures ∙ simp (ne_eqb _ _ c.if-number-eq7.false, ne_eqb _ _ c.if-number-eq8.false, ne_eqb _ _ c.if-number-eq9.false, ne_eqb _ _ c.if-number-eq10.false, ne_eqb _ _ c.if-number-eq11.false)
+returns-in_default c =
+    let other : (k : ℕ) → (c.args.number ≡ k → ⊥) → eqb c.args.number k ≡ false = λ k ne. ne_eqb c.args.number k ne in
+    c.unknown.ensures ∙ simp (other 7 (λ e. omega (arith, e)), other 8 (λ e. omega (arith, e)), other 9 (λ e. omega (arith, e)), other 10 (λ e. omega (arith, e)), other 11 (λ e. omega (arith, e)))

@@ -14,13 +14,13 @@ unfolding setting_reason
 returns-then-at-lt-MOST c =
     let a = c.args in
     c.setting_reason_at.ensures
-    ∙ sym (ap (λ (b : Bool). cond b (setting_reason_at a.rule c.first_faulty-at.result c.at_most-count.result a.range.low a.range.high (job_at a.jobs c.first_faulty-at.result) (setting_at a.settings c.first_faulty-at.result)) unknown) (lt-ltb _ _ c.if-at-lt-MOST.true))
-    ∙ ap₂ (λ (k n : ℕ). cond (ltb k most_jobs) (setting_reason_at a.rule k n a.range.low a.range.high (job_at a.jobs k) (setting_at a.settings k)) unknown) c.first_faulty-at.ensures c.at_most-count.ensures
+    ∙ sym (ap (λ (b : Bool). cond b (setting_reason_at a.rule c.first_faulty-at.result c.at_most-count.result a.call.range.low a.call.range.high (job_at a.call.jobs.table c.first_faulty-at.result) (setting_at a.settings c.first_faulty-at.result)) unknown) (lt-ltb _ _ c.if-at-lt-MOST.true))
+    ∙ ap₂ (λ (k n : ℕ). cond (ltb k most_jobs) (setting_reason_at a.rule k n a.call.range.low a.call.range.high (job_at a.call.jobs.table k) (setting_at a.settings k)) unknown) c.first_faulty-at.ensures c.at_most-count.ensures
 
 pub returns : goal.returns
 unfolding setting_reason
 returns c =
     let a = c.args in
     c.unknown.ensures
-    ∙ sym (ap (λ (b : Bool). cond b (setting_reason_at a.rule c.first_faulty-at.result c.at_most-count.result a.range.low a.range.high (job_at a.jobs c.first_faulty-at.result) (setting_at a.settings c.first_faulty-at.result)) unknown) (le-ltb _ _ c.if-at-lt-MOST.false))
-    ∙ ap₂ (λ (k n : ℕ). cond (ltb k most_jobs) (setting_reason_at a.rule k n a.range.low a.range.high (job_at a.jobs k) (setting_at a.settings k)) unknown) c.first_faulty-at.ensures c.at_most-count.ensures
+    ∙ sym (ap (λ (b : Bool). cond b (setting_reason_at a.rule c.first_faulty-at.result c.at_most-count.result a.call.range.low a.call.range.high (job_at a.call.jobs.table c.first_faulty-at.result) (setting_at a.settings c.first_faulty-at.result)) unknown) (le-ltb _ _ c.if-at-lt-MOST.false))
+    ∙ ap₂ (λ (k n : ℕ). cond (ltb k most_jobs) (setting_reason_at a.rule k n a.call.range.low a.call.range.high (job_at a.call.jobs.table k) (setting_at a.settings k)) unknown) c.first_faulty-at.ensures c.at_most-count.ensures

@@ -1,30 +1,35 @@
-use mathlib.Core.Path.{ap, ◌∙◌}
-use borrow.Author.Tests.{eq-eqb, ne_eqb}
+use Prim.Native.Nat.{ℕ}
+use mathlib.Core.Path.{◌≡◌, sym, ap, ◌∙◌}
+use mathlib.Core.Bool.{false}
+use native.Mathlib.Omega.{arith}
+use lib.Dec.{eqb}
+use borrow.Author.Tests.{ne_eqb}
 use Rattle.reasons.specs.declared.reason.Sentence.TheVariants.{KernelBytes}
 use Rattle.reasons.specs.Reasons.{count_reason, kernel_reason}
 use Rattle.reasons.proofs.kernels.kernel_reason.Goals as goal
 
-pub returns-then-number-eq7 : goal.returns-then-number-eq7
+pub returns-in-7 : goal.returns-in-7
 unfolding kernel_reason
-returns-then-number-eq7 c =
-    c.count_reason.ensures ∙ ap (count_reason KernelBytes c.args.size) c.at_most.ensures ∙ simp (eq-eqb _ _ c.if-number-eq7.true)
+returns-in-7 c = rw c.in-7.is (c.count_reason.ensures ∙ ap (count_reason KernelBytes c.args.size) c.at_most.ensures)
 
-pub returns-then-number-eq8 : goal.returns-then-number-eq8
+pub returns-in-8 : goal.returns-in-8
 unfolding kernel_reason
-returns-then-number-eq8 c = c.kernel_record_reason.ensures ∙ simp (ne_eqb _ _ c.if-number-eq7.false, eq-eqb _ _ c.if-number-eq8.true)
+returns-in-8 c = rw c.in-8.is c.kernel_record_reason.ensures
 
-pub returns-then-number-eq14 : goal.returns-then-number-eq14
+pub returns-in-14 : goal.returns-in-14
 unfolding kernel_reason
-returns-then-number-eq14 c = c.kernel_record_reason-then-number-eq14.ensures ∙ simp (ne_eqb _ _ c.if-number-eq7.false, ne_eqb _ _ c.if-number-eq8.false, eq-eqb _ _ c.if-number-eq14.true)
+returns-in-14 c = rw c.in-14.is c.kernel_record_reason-in-14.ensures
 
-pub returns-then-number-eq9 : goal.returns-then-number-eq9
+pub returns-in-9 : goal.returns-in-9
 unfolding kernel_reason
-returns-then-number-eq9 c = c.kernel_record_reason-then-number-eq9.ensures ∙ simp (ne_eqb _ _ c.if-number-eq7.false, ne_eqb _ _ c.if-number-eq8.false, ne_eqb _ _ c.if-number-eq14.false, eq-eqb _ _ c.if-number-eq9.true)
+returns-in-9 c = rw c.in-9.is c.kernel_record_reason-in-9.ensures
 
-pub returns-then-number-eq10 : goal.returns-then-number-eq10
+pub returns-in-10 : goal.returns-in-10
 unfolding kernel_reason
-returns-then-number-eq10 c = c.kernel_record_reason-then-number-eq10.ensures ∙ simp (ne_eqb _ _ c.if-number-eq7.false, ne_eqb _ _ c.if-number-eq8.false, ne_eqb _ _ c.if-number-eq14.false, ne_eqb _ _ c.if-number-eq9.false, eq-eqb _ _ c.if-number-eq10.true)
+returns-in-10 c = rw c.in-10.is c.kernel_record_reason-in-10.ensures
 
-pub returns : goal.returns
+pub returns-in_default : goal.returns-in_default
 unfolding kernel_reason
-returns c = c.unknown.ensures ∙ simp (ne_eqb _ _ c.if-number-eq7.false, ne_eqb _ _ c.if-number-eq8.false, ne_eqb _ _ c.if-number-eq14.false, ne_eqb _ _ c.if-number-eq9.false, ne_eqb _ _ c.if-number-eq10.false)
+returns-in_default c =
+    let other : (k : ℕ) → (c.args.number ≡ k → ⊥) → eqb c.args.number k ≡ false = λ k ne. ne_eqb c.args.number k ne in
+    c.unknown.ensures ∙ simp (other 7 (λ e. omega (arith, e)), other 8 (λ e. omega (arith, e)), other 14 (λ e. omega (arith, e)), other 9 (λ e. omega (arith, e)), other 10 (λ e. omega (arith, e)))

@@ -20,13 +20,13 @@ module _ (c : After-first_faulty-at) where
 
   -- What is said of the record at a place, for so many jobs; and what is said wherever the place is.
   abbrev told : ℕ → ℕ → Reason
-  told k n = let a = c.args in kernel_record_reason_at a.rule k n a.range.low a.range.high a.highest (job_at a.jobs k) (kernel_at a.kernels k)
+  told k n = let a = c.args in kernel_record_reason_at a.rule k n a.call.range.low a.call.range.high a.highest (job_at a.call.jobs.table k) (kernel_at a.kernels k)
 
   abbrev either : ℕ → ℕ → Reason
   either k n = cond (ltb k most_jobs) (told k n) unknown
 
   abbrev whole : Reason
-  whole = let a = c.args in kernel_record_reason a.rule a.jobs a.kernels a.n a.range.low a.range.high a.highest
+  whole = let a = c.args in kernel_record_reason a.rule a.call.jobs.table a.kernels a.call.jobs.count a.call.range.low a.call.range.high a.highest
 
   found : either at count ≡ whole
   unfolding kernel_record_reason
