@@ -2,7 +2,7 @@ use native.Mathlib.Omega.{arith}
 use Rattle.writing.proofs.Writing.{then, retold}
 use Rattle.tables.proofs.Tabling.{kernel-line}
 use borrow.Author.Rules.{rules}
-use Rattle.tables.proofs.put_kernel.Goals as goal
+use Rattle.tables.proofs.KernelRecordLine.put_line.Goals as goal
 
 pub put_policy-after_policy-requires : goal.put_policy-after_policy-requires
 put_policy-after_policy-requires c = let start = c.put_template-after_id.ensures.wrote (search rules) in omega (arith, start.next, start.short)
@@ -12,4 +12,4 @@ returns c =
     let a = c.args in
     let start = c.put_template-after_id.ensures.wrote (search rules) in
     let word = c.put_policy-after_policy.ensures in
-    retold (then start (then word (c.put_template.ensures.wrote (omega (arith, start.next, start.short, word.next, word.short))))) (kernel-line a.kernel)
+    retold (then start (then word (c.put_template.ensures.wrote (omega (arith, start.next, start.short, word.next, word.short))))) (kernel-line a.self)

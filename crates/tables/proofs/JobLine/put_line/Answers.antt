@@ -2,7 +2,7 @@ use native.Mathlib.Omega.{arith}
 use Rattle.writing.proofs.Writing.{then, retold}
 use Rattle.tables.proofs.Tabling.{job-line}
 use borrow.Author.Rules.{rules}
-use Rattle.tables.proofs.put_job.Goals as goal
+use Rattle.tables.proofs.JobLine.put_line.Goals as goal
 
 pub put_delay-requires : goal.put_delay-requires
 put_delay-requires c = let numbers = c.put_template-after_deadline.ensures.wrote (search rules) in omega (arith, numbers.next, numbers.short)
@@ -10,4 +10,4 @@ put_delay-requires c = let numbers = c.put_template-after_deadline.ensures.wrote
 pub returns : goal.returns
 returns c =
     let a = c.args in
-    retold (then (c.put_template-after_deadline.ensures.wrote (search rules)) c.put_delay.ensures) (job-line a.job)
+    retold (then (c.put_template-after_deadline.ensures.wrote (search rules)) c.put_delay.ensures) (job-line a.self)
