@@ -1,7 +1,7 @@
 // What is printed of a hand-in that is marked: a line per job, and whether it passes; and the bounds of a configuration, in a key's lines.
 #![tactic(auto)]
 
-ghost use Rattle.std.specs.Prelude.{◌≡◌, ◌+◌, ◌≤◌, ◌<◌, min, length};
+ghost use Rattle.std.specs.Prelude.{◌≡◌, [], ◌∷◌, ◌+◌, ◌≤◌, min, length};
 ghost use Rattle.std.proofs.lemmas.List.Edits.{sets};
 ghost use Rattle.records.specs.Limits.{most_jobs};
 ghost use Rattle.writing.specs.Templates.{rows_to, Wrote};
@@ -19,34 +19,26 @@ use text::{answer, key};
 // The size of a buffer that holds what is printed of any jobs.
 pub const SIZE: usize = 3190;
 
-// The line of the job at place k.
-fn put_mark(
-    output: &mut [u8],
-    at: usize,
-    jobs: [Job; Job::MOST],
-    bounds: [u16; Job::MOST],
-    k: usize,
-) -> usize
-    requires { (at + 370 ≤ length output.old) × (k < most_jobs) }
-    ensures { Wrote 370 output.old output.new at result (mark_line jobs bounds k) }
+// The line of a job with its bound.
+fn put_mark(output: &mut [u8], at: usize, job: Job, bound: u16) -> usize
+    requires { at + 370 ≤ length output.old }
+    ensures { Wrote 370 output.old output.new at result (mark_line (job ∷ []) (bound ∷ []) 0) }
 {
-    let job = jobs[k];
     let id = job.id as u32;
     let deadline = job.deadline as u32;
-    let bound = bounds[k];
     if bound == 0 {
         return writing::put_template(
             output,
             at,
             b"job %: no bound up to its deadline %\n",
-            [id, deadline, 0, 0, 0, 0, 0, 0],
+            &[id, deadline],
         );
     }
     writing::put_template(
         output,
         at,
         b"job %: bound %, deadline %\n",
-        [id, bound as u32, deadline, 0, 0, 0, 0, 0],
+        &[id, bound as u32, deadline],
     )
 }
 
@@ -56,30 +48,21 @@ fn put_lines(output: &mut [u8], jobs: [Job; Job::MOST], bounds: [u16; Job::MOST]
     ensures { Wrote 2960 output.old output.new 0 result (rows_to (mark_line jobs bounds) n) }
 {
     let mut at = 0;
-    let mut k = 0;
-    while k < n {
-        at = put_mark(output, at, jobs, bounds, k);
-        k += 1;
+    for (job, bound) in jobs[..n].iter().zip(&bounds) {
+        at = put_mark(output, at, *job, *bound);
     }
     at
 }
 
-// The id of the job at place k, where it has no bound.
-fn put_over(
-    output: &mut [u8],
-    at: usize,
-    jobs: [Job; Job::MOST],
-    bounds: [u16; Job::MOST],
-    k: usize,
-) -> usize
-    requires { (at + 20 ≤ length output.old) × (k < most_jobs) }
-    ensures { Wrote 20 output.old output.new at result (over_text jobs bounds k) }
+// The id of a job that has no bound.
+fn put_over(output: &mut [u8], at: usize, job: Job, bound: u16) -> usize
+    requires { at + 20 ≤ length output.old }
+    ensures { Wrote 20 output.old output.new at result (over_text (job ∷ []) (bound ∷ []) 0) }
 {
-    let job = jobs[k];
-    if bounds[k] == 0 {
-        return writing::put_template(output, at, b" %", [job.id as u32, 0, 0, 0, 0, 0, 0, 0]);
+    if bound != 0 {
+        return at;
     }
-    at
+    writing::put_template(output, at, b" %", &[job.id as u32])
 }
 
 // The ids of the jobs of n that have no bound.
@@ -94,10 +77,8 @@ fn put_overs(
     ensures { Wrote 160 output.old output.new from result (rows_to (over_text jobs bounds) n) }
 {
     let mut at = from;
-    let mut k = 0;
-    while k < n {
-        at = put_over(output, at, jobs, bounds, k);
-        k += 1;
+    for (job, bound) in jobs[..n].iter().zip(&bounds) {
+        at = put_over(output, at, *job, *bound);
     }
     at
 }
@@ -113,11 +94,11 @@ fn put_verdict(
     ensures { Wrote 230 output.old output.new at result (verdict_line n jobs bounds) }
 {
     if marker::table::none_zero(bounds, n) {
-        return writing::put_template(output, at, b"passes\n", [0u32; writing::MOST]);
+        return writing::put_template(output, at, b"passes\n", &[]);
     }
-    let after_word = writing::put_template(output, at, b"fails:", [0u32; writing::MOST]);
+    let after_word = writing::put_template(output, at, b"fails:", &[]);
     let after_jobs = put_overs(output, after_word, jobs, bounds, n);
-    writing::put_template(output, after_jobs, b"\n", [0u32; writing::MOST])
+    writing::put_template(output, after_jobs, b"\n", &[])
 }
 
 // What is printed of n jobs with their bounds, from the start of the output on.

@@ -1,5 +1,5 @@
 // The key program's text: a line per job, and how many are placed.
-ghost use Rattle.std.specs.Prelude.{◌≡◌, ◌+◌, ◌≤◌, ◌<◌, min, length, take};
+ghost use Rattle.std.specs.Prelude.{◌≡◌, [], ◌∷◌, ◌+◌, ◌≤◌, min, length, take};
 ghost use Rattle.std.proofs.lemmas.List.Edits.{sets};
 ghost use Rattle.records.specs.Limits.{most_jobs};
 ghost use Rattle.writing.specs.Templates.{rows_to, Wrote};
@@ -15,18 +15,11 @@ use records::refusal::Counted;
 // The size of a buffer that holds every key.
 pub const SIZE: usize = 940;
 
-// The line of the job at place k.
-fn put_job(
-    output: &mut [u8],
-    at: usize,
-    settings: [Setting; Job::MOST],
-    bounds: [u16; Job::MOST],
-    k: usize,
-) -> usize
-    requires { (at + 100 ≤ length output.old) × (k < most_jobs) }
-    ensures { Wrote 100 output.old output.new at result (job_line settings bounds k) }
+// The line of a job with its setting and its bound.
+fn put_job(output: &mut [u8], at: usize, setting: Setting, bound: u16) -> usize
+    requires { at + 100 ≤ length output.old }
+    ensures { Wrote 100 output.old output.new at result (job_line (setting ∷ []) (bound ∷ []) 0) }
 {
-    let setting = settings[k];
     let level = setting.level as u32;
     let policy = setting.policy as u32;
     let quantum = setting.quantum as u32;
@@ -34,16 +27,7 @@ fn put_job(
         output,
         at,
         b"% % % % %\n",
-        [
-            setting.id as u32,
-            level,
-            policy,
-            quantum,
-            bounds[k] as u32,
-            0,
-            0,
-            0,
-        ],
+        &[setting.id as u32, level, policy, quantum, bound as u32],
     )
 }
 
@@ -58,10 +42,8 @@ fn put_jobs(
     ensures { Wrote 800 output.old output.new 0 result (rows_to (job_line settings bounds) n) }
 {
     let mut at = 0;
-    let mut k = 0;
-    while k < n {
-        at = put_job(output, at, settings, bounds, k);
-        k += 1;
+    for (setting, bound) in settings[..n].iter().zip(&bounds) {
+        at = put_job(output, at, *setting, *bound);
     }
     at
 }
@@ -91,12 +73,7 @@ fn put_key(
     ensures { Wrote 940 output.old output.new 0 result (table_text settings bounds placed n) }
 {
     let at = put_jobs(output, settings, bounds, n);
-    writing::put_template(
-        output,
-        at,
-        b"placed % of %\n",
-        [placed, n as u32, 0, 0, 0, 0, 0, 0],
-    )
+    writing::put_template(output, at, b"placed % of %\n", &[placed, n as u32])
 }
 
 // The line of a refused block.
@@ -104,12 +81,7 @@ fn put_refused(output: &mut [u8], number: u8) -> usize
     requires { 100 ≤ length output.old }
     ensures { Wrote 100 output.old output.new 0 result (refused_text number) }
 {
-    writing::put_template(
-        output,
-        0,
-        b"refused %\n",
-        [number as u32, 0, 0, 0, 0, 0, 0, 0],
-    )
+    writing::put_template(output, 0, b"refused %\n", &[number as u32])
 }
 
 // The line of a refused block, at the start of the output; it gives the text's length. No entry.

@@ -1,3 +1,4 @@
+use mathlib.Core.List.{[], ◌∷◌}
 use native.Mathlib.Omega.{arith}
 use Rattle.writing.specs.Templates.{filled}
 use Rattle.writing.proofs.Writing.{retold, widened}
@@ -9,10 +10,10 @@ pub returns-then-bound-eq0 : goal.returns-then-bound-eq0
 unfolding filled
 returns-then-bound-eq0 c =
     let a = c.args in
-    retold (c.put_template.ensures.wrote (search rules)) (over-line a.jobs a.bounds a.k c.if-bound-eq0.true)
+    retold (c.put_template.ensures.wrote (search rules)) (over-line (a.job ∷ []) (a.bound ∷ []) 0 c.if-bound-eq0.true)
 
 pub returns : goal.returns
 unfolding filled
 returns c =
     let a = c.args in
-    retold (widened 370 (c.put_template-2.ensures.wrote (search rules)) (omega arith)) (bound-line a.jobs a.bounds a.k c.if-bound-eq0.false)
+    retold (widened 370 (c.put_template-2.ensures.wrote (search rules)) (omega arith)) (bound-line (a.job ∷ []) (a.bound ∷ []) 0 c.if-bound-eq0.false)
