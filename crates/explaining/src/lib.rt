@@ -1,7 +1,7 @@
 // What is printed of where the ticks of a configuration's bounds go: for each job the sum in words and a bar drawn to scale.
 #![tactic(auto)]
 
-ghost use Rattle.std.specs.Prelude.{◌≡◌, ◌+◌, ◌^◌, ◌≤◌, ◌<◌, length};
+ghost use Rattle.std.specs.Prelude.{◌≡◌, [], ◌∷◌, ◌+◌, ◌^◌, ◌≤◌, ◌<◌, length};
 ghost use Rattle.records.specs.Limits.{most_jobs};
 ghost use Rattle.records.specs.Refusals.{given};
 ghost use Rattle.writing.specs.Templates.{rows_to, Wrote};
@@ -63,11 +63,9 @@ fn put_bar(output: &mut [u8], from: usize, parts: Parts, deadline: u16) -> usize
     ensures { Wrote 500 output.old output.new from result (bar_text parts deadline) }
 {
     let mut at = from;
-    let mut column: u32 = 0;
-    while column < COLUMNS {
+    for column in 0..COLUMNS {
         let cell = [cell_of(parts, deadline, column)];
-        at = writing::put_template(output, at, &cell, [0u32; writing::MOST]);
-        column += 1;
+        at = writing::put_template(output, at, &cell, &[]);
     }
     at
 }
@@ -81,7 +79,7 @@ fn put_served(output: &mut [u8], at: usize, job: Job, parts: Parts, bound: u16) 
         output,
         at,
         b"job %: % own + % layer + % above + % late - % = % of %\n  ",
-        [
+        &[
             job.id as u32,
             parts.own,
             parts.share,
@@ -97,44 +95,35 @@ fn put_served(output: &mut [u8], at: usize, job: Job, parts: Parts, bound: u16) 
         output,
         after_bar,
         b"|  bound %, instance %\n",
-        [parts.which as u32, parts.instance as u32, 0, 0, 0, 0, 0, 0],
+        &[parts.which as u32, parts.instance as u32],
     )
 }
 
-// The lines of the job at place k.
+// The lines of a job with its setting, its parts and its bound.
 fn put_job(
     output: &mut [u8],
     at: usize,
-    jobs: [Job; Job::MOST],
-    settings: [Setting; Job::MOST],
-    parts: [Parts; Job::MOST],
-    bounds: [u16; Job::MOST],
-    k: usize,
+    job: Job,
+    setting: Setting,
+    parts: Parts,
+    bound: u16,
 ) -> usize
-    requires { (at + 1300 ≤ length output.old) × (k < most_jobs) }
-    ensures { Wrote 1300 output.old output.new at result (explain_row jobs settings parts bounds k) }
+    requires { at + 1300 ≤ length output.old }
+    ensures { Wrote 1300 output.old output.new at result (explain_row (job ∷ []) (setting ∷ []) (parts ∷ []) (bound ∷ []) 0) }
 {
-    let job = jobs[k];
-    let setting = settings[k];
-    let bound = bounds[k];
     if bound != 0 {
-        return put_served(output, at, job, parts[k], bound);
+        return put_served(output, at, job, parts, bound);
     }
     let id = job.id as u32;
     let deadline = job.deadline as u32;
     if setting.level == 0 {
-        return writing::put_template(
-            output,
-            at,
-            b"job %: not placed\n",
-            [id, 0, 0, 0, 0, 0, 0, 0],
-        );
+        return writing::put_template(output, at, b"job %: not placed\n", &[id]);
     }
     writing::put_template(
         output,
         at,
         b"job %: no bound up to its deadline %\n",
-        [id, deadline, 0, 0, 0, 0, 0, 0],
+        &[id, deadline],
     )
 }
 
@@ -151,10 +140,8 @@ fn put_jobs(
     ensures { Wrote 10400 output.old output.new 0 result (rows_to (explain_row jobs settings parts bounds) n) }
 {
     let mut at = 0;
-    let mut k = 0;
-    while k < n {
-        at = put_job(output, at, jobs, settings, parts, bounds, k);
-        k += 1;
+    for k in 0..n {
+        at = put_job(output, at, jobs[k], settings[k], parts[k], bounds[k]);
     }
     at
 }
@@ -176,7 +163,7 @@ fn put_explanation(
         output,
         last,
         b"# own  = layer  - above  ~ late  . spare  | deadline\n",
-        [0u32; writing::MOST],
+        &[],
     );
     Told {
         answer: answer::yes_or_no(marker::table::none_zero(bounds, n)),

@@ -1,24 +1,20 @@
-use Prim.Native.Nat.{ℕ, ◌*◌}
-use mathlib.Core.Path.{◌≡◌, refl, subst}
 use native.Mathlib.Omega.{arith}
-use Rattle.writing.specs.Templates.{rows_to, Wrote}
+use Rattle.writing.proofs.Writing.{no-part, next-fits, row-next, rows-all}
 use Rattle.explaining.specs.Explanations.{explain_row}
-use Rattle.writing.proofs.Writing.{then, retold, widened, nothing, rows_next}
-use borrow.Author.Rules.{rules}
 use Rattle.explaining.proofs.put_jobs.Goals as goal
 
 pub loop-k-init : goal.loop-k-init
-loop-k-init c = (search rules, refl, search rules, nothing _ _)
+loop-k-init c = no-part 1300 _ _
+
+pub put_job-at-requires : goal.put_job-at-requires
+put_job-at-requires c = next-fits 1300 _ c.loop-k.invariant c.loop-k-test.true (omega (arith, c.requires))
 
 pub loop-k-preserved : goal.loop-k-preserved
 loop-k-preserved c =
-    let put = c.put_job-at in
     let a = c.args in
-    (search rules, search rules, omega (arith, put.ensures.next, put.ensures.short), widened _ (retold (then c.loop-k.invariant.3 put.ensures) (rows_next (explain_row a.jobs a.settings a.parts a.bounds) c.loop-k.k)) (omega arith))
+    row-next 1300 (explain_row a.jobs a.settings a.parts a.bounds) _ c.loop-k.invariant c.put_job-at.ensures
 
 pub returns : goal.returns
 returns c =
-    let l = c.loop-k in
     let a = c.args in
-    let e : l.k ≡ a.n = omega arith in
-    widened 10400 (subst (λ (j : ℕ). Wrote (1300 * j) a.output.now l.output 0 l.at (rows_to (explain_row a.jobs a.settings a.parts a.bounds) j)) e l.invariant.3) (omega arith)
+    rows-all 1300 10400 (explain_row a.jobs a.settings a.parts a.bounds) a.n (omega (arith, c.loop-k.auto.k-end, c.loop-k-test.false)) c.loop-k.invariant (omega (arith, c.requires.0))
