@@ -1,23 +1,18 @@
 use Prim.Native.Nat.{ℕ, ◌+◌, ◌*◌}
-use mathlib.Core.Path.{◌≡◌, refl, sym, ap, ap₂, subst, ◌∙◌}
+use mathlib.Core.Path.{◌≡◌, refl, sym, ap, ap₂, ◌∙◌}
 use mathlib.Core.List.{List, [], ◌∷◌, ◌++◌}
 use native.Mathlib.Numerals.{add-one}
 use native.Mathlib.Omega.{arith}
-use lib.ListN.{length, get_or, drop, drop_of_length-le}
+use lib.ListN.{get_or, drop}
 use lib.Seq.{drop-cons}
 use borrow.Author.Rules.{rules}
-use Rattle.writing.specs.Templates.{piece, filled_from, filled, Wrote}
-use Rattle.writing.proofs.Writing.{then, retold, limited-to, nothing, used-small}
+use Rattle.writing.specs.Templates.{piece, filled_from, filled}
+use Rattle.writing.proofs.Writing.{then, limited-to, nothing, used-small}
 use Rattle.writing.proofs.put_filled.Goals as goal
 
 pub loop-byte-init : goal.loop-byte-init
 unfolding filled
 loop-byte-init c = (search rules, ([], nothing _ _, refl))
-
-pub put_piece-next-requires : goal.put_piece-next-requires
-put_piece-next-requires c =
-    let w = c.loop-byte.invariant.1.1 in
-    omega (arith, w.next, w.short, c.loop-byte.auto.buffer, c.loop-byte-test.true, c.requires)
 
 pub loop-byte-preserved : goal.loop-byte-preserved
 loop-byte-preserved c =
@@ -39,11 +34,3 @@ loop-byte-preserved c =
             ∙ w.2,
       ),
     )
-
-pub returns : goal.returns
-returns c =
-    let a = c.args in
-    let w = c.loop-byte.invariant.1 in
-    let e : c.loop-byte.byte-index ≡ length a.template.now = omega (arith, c.loop-byte.auto.byte-index-end, c.loop-byte-test.false) in
-    retold (subst (λ (k : ℕ). Wrote (10 * k) a.buffer.now c.loop-byte.buffer a.at c.loop-byte.next w.0) e w.1)
-    (sym (ap (λ (x : List ℕ). filled_from a.numbers.now w.0 x c.loop-byte.used) (drop_of_length-le a.template.now {i = c.loop-byte.byte-index} (omega (arith, e)))) ∙ w.2)
