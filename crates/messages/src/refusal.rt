@@ -118,12 +118,8 @@ fn put_place(
     ensures { Wrote 100 output.old output.new at result (place_text naming lines place) }
 {
     match naming {
-        Naming::Line => {
-            writing::put_template(output, at, b"line %: ", &[lines[place]])
-        }
-        Naming::Record => {
-            writing::put_template(output, at, b"record %: ", &[place as u32 + 1])
-        }
+        Naming::Line => { writing::put_template(output, at, b"line %: ", &[lines[place]]) }
+        Naming::Record => { writing::put_template(output, at, b"record %: ", &[place as u32 + 1]) }
     }
 }
 

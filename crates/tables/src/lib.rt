@@ -54,8 +54,12 @@ impl Line for Job {
         let cost = self.cost as u32;
         let period = self.period as u32;
         let deadline = self.deadline as u32;
-        let after_deadline =
-            writing::put_template(output, at, b"% % % %", &[id, cost, period, deadline]);
+        let after_deadline = writing::put_template(
+            output,
+            at,
+            b"% % % %",
+            &[id, cost, period, deadline],
+        );
         put_delay(output, after_deadline, self.delay)
     }
 }
@@ -101,7 +105,12 @@ impl Line for KernelRecord {
         let quantum = self.quantum as u32;
         let after_id = writing::put_template(output, at, b"% ", &[self.id as u32]);
         let after_policy = put_policy(output, after_id, self.policy);
-        writing::put_template(output, after_policy, b" % %\n", &[priority.0 as u32, quantum])
+        writing::put_template(
+            output,
+            after_policy,
+            b" % %\n",
+            &[priority.0 as u32, quantum],
+        )
     }
 }
 

@@ -13,14 +13,7 @@ use Rattle.same_bytes.specs.Same.{same_bytes, record_size}
 use Rattle.same_bytes.proofs.Equality.{same-exactly}
 use Rattle.same_bytes.proofs.Parts.{parts-next, no-parts}
 use Rattle.same_bytes.proofs.RecordNumbers.{gather-next, next-bytes}
-use borrow.Author.Rules.{rules}
 use Rattle.same_bytes.proofs.same_records.Goals as goal
-
-pub loop-x-init : goal.loop-x-init
-loop-x-init c =
-    let a : chunks_exact_rest (zip_first c.into_iter-x-iterator.result) ≡ c.args.a.now = search rules in
-    let b : chunks_exact_rest (zip_second c.into_iter-x-iterator.result) ≡ c.args.b.now = search rules in
-    (search rules, search rules, search rules, search rules, λ i. rw a (omega (arith, c.type_inv.a i)), λ i. rw b (omega (arith, c.type_inv.b i)), ap₂ same_bytes (sym a) (sym b))
 
 pub loop-x-preserved : goal.loop-x-preserved
 loop-x-preserved c =

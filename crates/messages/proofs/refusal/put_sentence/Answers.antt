@@ -1,11 +1,10 @@
-use mathlib.Core.Path.{◌≡◌, ap, ◌∙◌}
+use mathlib.Core.Path.{ap, ◌∙◌}
 use native.Mathlib.Omega.{arith}
 use Rattle.records.specs.Records.{flat}
 use Rattle.writing.specs.Templates.{line_of}
 use Rattle.writing.proofs.Writing.{widened, from-template}
 use Rattle.messages.specs.Refusals.{template}
 use Rattle.messages.proofs.Told.{lines_of, sentences, sentence-told}
-use borrow.Author.Rules.{rules}
 use Rattle.messages.proofs.refusal.put_sentence.Goals as goal
 
 pub returns : goal.returns

@@ -1,11 +1,7 @@
-use native.Mathlib.Omega.{arith}
 use Rattle.writing.proofs.Writing.{then, retold}
 use Rattle.tables.proofs.Tabling.{job-line}
 use borrow.Author.Rules.{rules}
 use Rattle.tables.proofs.JobLine.put_line.Goals as goal
-
-pub put_delay-requires : goal.put_delay-requires
-put_delay-requires c = let numbers = c.put_template-after_deadline.ensures.wrote (search rules) in omega (arith, numbers.next, numbers.short)
 
 pub returns : goal.returns
 returns c =

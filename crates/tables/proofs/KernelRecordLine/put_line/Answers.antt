@@ -4,9 +4,6 @@ use Rattle.tables.proofs.Tabling.{kernel-line}
 use borrow.Author.Rules.{rules}
 use Rattle.tables.proofs.KernelRecordLine.put_line.Goals as goal
 
-pub put_policy-after_policy-requires : goal.put_policy-after_policy-requires
-put_policy-after_policy-requires c = let start = c.put_template-after_id.ensures.wrote (search rules) in omega (arith, start.next, start.short)
-
 pub returns : goal.returns
 returns c =
     let a = c.args in
