@@ -5,9 +5,6 @@ use Rattle.explaining.specs.Explanations.{columns, cell_of}
 use Rattle.explaining.proofs.Explaining.{cell-filled}
 use Rattle.explaining.proofs.put_bar.Goals as goal
 
-pub loop-column-init : goal.loop-column-init
-loop-column-init c = no-part 10 _ _
-
 pub loop-column-preserved : goal.loop-column-preserved
 loop-column-preserved c =
     let a = c.args in

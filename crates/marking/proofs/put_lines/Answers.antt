@@ -24,23 +24,9 @@ turn c =
     let within : k < a.n = omega (arith, at.0, length-take a.n a.jobs) in
     (within, at.2 blank_job ∙ get_or-take a.n a.jobs k blank_job within, at.3 0)
 
-pub loop-job-init : goal.loop-job-init
-loop-job-init c = no-part 370 _ _
-
-pub put_mark-at-requires : goal.put_mark-at-requires
-put_mark-at-requires c = next-fits 370 _ c.loop-job.invariant (turn (goal.at.put_mark-at-requires c).In-Some).0 (omega (arith, c.requires))
-
 pub loop-job-preserved : goal.loop-job-preserved
 loop-job-preserved c =
     let a = c.args in
     let here = turn (goal.at.loop-job-preserved c).In-Some in
     row-more 370 (mark_line a.jobs a.bounds) c.loop-job.yielded _ c.loop-job.invariant c.put_mark-at.ensures
     (ap₂ (λ (job : Job) (bound : ℕ). mark_line (job ∷ []) (bound ∷ []) 0) here.1 here.2)
-
-pub returns : goal.returns
-returns c =
-    let a = c.args in
-    let size : length a.jobs ≡ most_jobs = search rules in
-    let same : length a.bounds ≡ most_jobs = search rules in
-    let end = zip_end (take a.n a.jobs) a.bounds c.loop-job.yielded _ c.loop-job.job-iterator c.next.new.self c.next.result (search rules) (search rules) c.loop-job.yielded_by c.in-None.is c.next.ensures.steps in
-    rows-all 370 2960 (mark_line a.jobs a.bounds) a.n (omega (arith, end, length-take a.n a.jobs, size, same, c.requires.0)) c.loop-job.invariant (omega (arith, c.requires.0))

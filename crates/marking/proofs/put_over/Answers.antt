@@ -9,11 +9,6 @@ use Rattle.writing.proofs.Writing.{retold, widened, nothing}
 use borrow.Author.Rules.{rules}
 use Rattle.marking.proofs.put_over.Goals as goal
 
-pub returns-then-bound-ne0 : goal.returns-then-bound-ne0
-returns-then-bound-ne0 c =
-    let a = c.args in
-    retold (widened 20 (nothing _ _) (omega arith)) (sym (ap (λ (b : Bool). cond b (space ∷ decimal a.job.id) []) (ne_eqb a.bound 0 c.if-bound-ne0.true)))
-
 pub returns : goal.returns
 unfolding filled
 returns c =

@@ -20,11 +20,6 @@ returns-in_default c =
     (whole (retold c.put_refused-length.ensures (ap refused_text said ∙ key-refused a.jobs.now a.low a.high _ c.read_call-call.ensures _ known)) (search rules)) in
     (p.0, p.1, p.2, ap (λ (x : Refusal). refused (number x)) same ∙ answer-refused a.jobs.now a.low a.high _ c.read_call-call.ensures _ known)
 
-pub put_key-length-requires : goal.put_key-length-requires
-put_key-length-requires c =
-    let a = c.args in
-    (key-few a.jobs.now a.low a.high _ c.read_call-call.ensures _ c.in-Count.is _ c.plan_table-plan.ensures _ c.in-Count-planned.is, search rules)
-
 pub returns-in-Count-planned : goal.returns-in-Count-planned
 returns-in-Count-planned c =
     let a = c.args in

@@ -25,23 +25,9 @@ turn c =
     let within : k < a.n = omega (arith, at.0, length-take a.n a.settings) in
     (within, at.2 blank_setting ∙ get_or-take a.n a.settings k blank_setting within, at.3 0)
 
-pub loop-setting-init : goal.loop-setting-init
-loop-setting-init c = no-part 100 _ _
-
-pub put_job-at-requires : goal.put_job-at-requires
-put_job-at-requires c = next-fits 100 _ c.loop-setting.invariant (turn (goal.at.put_job-at-requires c).In-Some).0 (omega (arith, c.requires))
-
 pub loop-setting-preserved : goal.loop-setting-preserved
 loop-setting-preserved c =
     let a = c.args in
     let here = turn (goal.at.loop-setting-preserved c).In-Some in
     row-more 100 (job_line a.settings a.bounds) c.loop-setting.yielded _ c.loop-setting.invariant c.put_job-at.ensures
     (ap₂ (λ (s : Setting) (b : ℕ). job_line (s ∷ []) (b ∷ []) 0) here.1 here.2)
-
-pub returns : goal.returns
-returns c =
-    let a = c.args in
-    let size : length a.settings ≡ most_jobs = search rules in
-    let size-2 : length a.bounds ≡ most_jobs = search rules in
-    let end = zip_end (take a.n a.settings) a.bounds c.loop-setting.yielded _ c.loop-setting.setting-iterator c.next.new.self c.next.result (search rules) (search rules) c.loop-setting.yielded_by c.in-None.is c.next.ensures.steps in
-    rows-all 100 800 (job_line a.settings a.bounds) a.n (omega (arith, end, length-take a.n a.settings, size, size-2, c.requires.0)) c.loop-setting.invariant (omega (arith, c.requires.0))
