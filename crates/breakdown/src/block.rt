@@ -6,21 +6,21 @@ ghost use Rattle.breakdown.specs.Breakdowns.{parts_size, parts_bytes};
 
 use crate::bytes;
 use records::job::Job;
-use records::refusal::{Counted, Refusal};
+use records::refusal::Refusal;
 use response::parts::Parts;
 
 // The size of the record of a bound's parts, in bytes.
 pub const PARTS_SIZE: usize = 22;
 
 // Writes the first n records of a table. No entry; it judges the room alone (12), and for n past 8 it writes all 8 entries.
-pub fn write_parts(parts: [Parts; Job::MOST], n: usize, output: &mut [u8]) -> Counted
+pub fn write_parts(parts: [Parts; Job::MOST], n: usize, output: &mut [u8]) -> Result<usize, Refusal>
     ensures { (counted result, output.new) ≡ write_records parts_size parts_bytes (take n parts) output.old }
 {
     let count = Job::at_most(n);
     let size = PARTS_SIZE * count;
     if output.len() < size {
-        return Counted::Refused(Refusal::OutputLength);
+        return Err(Refusal::OutputLength);
     }
     bytes::encode(parts, count, &mut *output);
-    Counted::Count(size)
+    Ok(size)
 }

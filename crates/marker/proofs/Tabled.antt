@@ -1,45 +1,57 @@
--- What writing the bounds of tables of jobs and settings comes to, without room for them and with it. Assumes nothing.
+-- What writing the bounds of tables of jobs and settings comes to. Assumes nothing.
 use Prim.Native.Nat.{ℕ, ◌*◌, min, ◌≤◌, ◌<◌}
-use mathlib.Core.Path.{◌≡◌, ap, ap₂, ◌∙◌}
+use mathlib.Core.Path.{◌≡◌, sym, ap, ap₂, ◌∙◌}
 use mathlib.Core.List.{List}
-use native.Mathlib.Omega.{arith}
 use lib.Dec.{ltb}
 use lib.ListN.{length, get_or, take}
-use borrow.Author.Tests.{lt-leb, le-leb}
+use Rattle.std.specs.Prelude.{Result, Ok, Err}
 use Rattle.sets.specs.Places.{every}
+use Rattle.sets.proofs.Places.{list_length}
 use Rattle.records.specs.Limits.{most_jobs}
-use Rattle.records.specs.Refusals.{given, refused, outcome}
-use Rattle.records.specs.Records.{table}
+use Rattle.records.specs.Refusals.{Answer, given, refused, number, outcome, counted}
+use Rattle.records.specs.Records.{word_bytes, table, written, room_tests, write_records}
 use Rattle.records.specs.declared.job.Job.{Job}
-use Rattle.records.proofs.FixedWidth.{cut-take, cut-length}
+use Rattle.records.specs.declared.refusal.Refusal.{Refusal}
+use Rattle.records.proofs.FixedWidth.{cut-take, cut-length, take-table, wrote-turned, wrote-done}
 use Rattle.configuration.specs.declared.setting.Setting.{Setting}
-use Rattle.marker.specs.Bounds.{bounds_of, all_served}
-use Rattle.marker.specs.Marks.{bound_size, marked, bounds_room}
+use Rattle.marker.specs.Bounds.{bound_at, bounds_of, all_served}
+use Rattle.marker.specs.Marks.{bound_size, marked, put_bounds}
 use Rattle.marker.proofs.Configured.{served-table}
 
--- Tables of k entries, and a count that is cut to k.
-module _ (jobs : List Job) (settings : List Setting) (k n count : ℕ) (jobs-size : length jobs ≡ k) (settings-size : length settings ≡ k) (cut : count ≡ min n k) where
+-- Tables of 8 entries, a count that is cut to 8, and the bounds of the first n jobs.
+module _ (jobs : List Job) (settings : List Setting) (n count : ℕ) (jobs-size : length jobs ≡ most_jobs) (cut : count ≡ min n most_jobs) (bounds : List ℕ)
+    (made : bounds ≡ table most_jobs 0 (bounds_of (take n jobs) (take n settings)))
+  where
   size : length (take n jobs) ≡ count
-  size = cut-length jobs k n count jobs-size cut
+  size = cut-length jobs most_jobs n count jobs-size cut
 
-  need : bound_size * length (take n jobs) ≡ bound_size * count
-  need = ap (λ (m : ℕ). bound_size * m) size
+  abbrev own : List ℕ
+  own = bounds_of (take n jobs) (take n settings)
 
-  module _ {A : Type 0} (values : A) (output : List ℕ) where
-    pub bounds-refused : length output < bound_size * count
-        → (refused 12, output) ≡ outcome (bounds_room (take n jobs) (length output)) values (marked (take n jobs) (take n settings) output) output
-    bounds-refused h = simp (lt-leb (bound_size * length (take n jobs)) (length output) (omega (arith, need)))
+  long : length own ≡ length (take n jobs)
+  long = list_length (bound_at (take n jobs) (take n settings)) (length (take n jobs))
 
-    pub bounds-done : bound_size * count ≤ length output → (after : List ℕ) → after ≡ marked (take count jobs) (take count settings) output
-        → (given values, after) ≡ outcome (bounds_room (take n jobs) (length output)) values (marked (take n jobs) (take n settings) output) output
-    bounds-done h after e =
-        ap (λ (l : List ℕ). (given values, l))
-        (e ∙ ap₂ (λ (x : List Job) (y : List Setting). marked x y output) (cut-take jobs k n count jobs-size cut) (cut-take settings k n count settings-size cut))
-        ∙ simp (le-leb (bound_size * length (take n jobs)) (length output) (omega (arith, need)))
+  first : take count bounds ≡ own
+  first = ap (take count) made ∙ take-table most_jobs 0 count own (long ∙ size)
 
-  pub bounds-served : (bounds : List ℕ) → bounds ≡ table most_jobs 0 (bounds_of (take count jobs) (take count settings))
-      → every (λ i. ltb 0 (get_or bounds i 0)) count ≡ all_served (take n jobs) (take n settings)
-  bounds-served bounds e =
-      ap (λ (l : List ℕ). every (λ i. ltb 0 (get_or l i 0)) count)
-      (e ∙ ap₂ (λ (x : List Job) (y : List Setting). table most_jobs 0 (bounds_of x y)) (cut-take jobs k n count jobs-size cut) (cut-take settings k n count settings-size cut))
+  module _ (output after : List ℕ) (wrote : Result ℕ Refusal) (is : (counted wrote, after) ≡ write_records bound_size word_bytes (take count bounds) output) where
+    saw : (counted wrote, after) ≡ write_records bound_size word_bytes own output
+    saw = is ∙ ap (λ (l : List ℕ). write_records bound_size word_bytes l output) first
+
+    abbrev done : Answer (Unit {0}) × List ℕ
+    done = outcome (room_tests (bound_size * length own) (length output)) tt (marked (take n jobs) (take n settings) output) output
+
+    roomed : done ≡ put_bounds (take n jobs) (take n settings) output
+    unfolding put_bounds
+    roomed = ap (λ (m : ℕ). outcome (room_tests (bound_size * m) (length output)) tt (marked (take n jobs) (take n settings) output) output) long
+
+    pub bounds-turned : (refusal : Refusal) → wrote ≡ Err refusal → (refused (number refusal), after) ≡ put_bounds (take n jobs) (take n settings) output
+    bounds-turned refusal e = wrote-turned bound_size word_bytes own output wrote after saw refusal e ∙ roomed
+
+    pub bounds-done : (m : ℕ) → wrote ≡ Ok m → (given tt, after) ≡ put_bounds (take n jobs) (take n settings) output
+    bounds-done m e = wrote-done bound_size word_bytes own output wrote after saw m e ∙ roomed
+
+  pub bounds-served : every (λ i. ltb 0 (get_or bounds i 0)) count ≡ all_served (take n jobs) (take n settings)
+  bounds-served =
+      ap (λ (l : List ℕ). every (λ i. ltb 0 (get_or l i 0)) count) made
       ∙ served-table (take n jobs) (take n settings) count size

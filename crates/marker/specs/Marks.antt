@@ -1,21 +1,18 @@
 -- The entries bounds and mark: what they answer, what they write, and which refusal applies first. Assumes nothing.
-use Rattle.std.specs.Prelude.{ℕ, ◌*◌, Bool, true, false, List, ◌++◌, length}
-use Rattle.records.specs.Refusals.{Answer, refused, given, number, Tests, outcome}
+use Rattle.std.specs.Prelude.{ℕ, Result, ◌*◌, Bool, List, ◌++◌, length}
+use Rattle.records.specs.Refusals.{Answer, handed, Tests, outcome}
 use Rattle.records.specs.Records.{word_of, word_bytes, chunks, written, room_tests}
 use Rattle.records.specs.Jobs.{job_list}
 use Rattle.records.specs.Calls.{call_tests}
 use Rattle.records.specs.declared.job.Job.{Job}
+use Rattle.records.specs.declared.refusal.Refusal.{Refusal}
 use Rattle.configuration.specs.declared.setting.Setting.{Setting}
 use Rattle.configuration.specs.Blocks.{settings_for, settings_of, record_tests, hand_in_tests}
-use Rattle.marker.specs.declared.MarkAnswer.{MarkAnswer}
-use Rattle.marker.specs.declared.MarkAnswer.TheVariants.{Passes, Fails, Refused}
 use Rattle.marker.specs.Bounds.{bounds_of, all_served, passes}
 
 -- What mark answers, in 01's numbers and values: whether the configuration passes.
-abbrev pub mark_answer : MarkAnswer → Answer Bool
-mark_answer Passes = given true
-mark_answer Fails = given false
-mark_answer (Refused refusal) = refused (number refusal)
+abbrev pub mark_answer : Result Bool Refusal → Answer Bool
+mark_answer r = handed r (λ passed. passed)
 
 -- ---- for lists of jobs and settings
 

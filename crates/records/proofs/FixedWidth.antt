@@ -19,7 +19,7 @@ use Rattle.std.specs.Prelude.{Result, Ok, Err}
 use Rattle.records.specs.Refusals.{Answer, refused, given, number, Tests, outcome, counted}
 use Rattle.records.specs.declared.refusal.Refusal.{Refusal}
 use Rattle.records.specs.Records.{word, word_of, word_bytes, long_bytes, flat, chunks, table, written, room_tests, write_records}
-use Rattle.records.proofs.Outcomes.{accepts, keeps, gives, refuses-alike}
+use Rattle.records.proofs.Outcomes.{gives, other-turned, other-given}
 
 -- ---- lists of records
 
@@ -234,15 +234,14 @@ module _ {A : Type 0} (w : ℕ) (bytes : A → List ℕ) (xs : List A) (output :
     pub wrote-turned : (refusal : Refusal) → wrote ≡ Err refusal → (refused (number refusal), after) ≡ done
     unfolding write_records
     wrote-turned refusal f =
-        let told : (outcome tests (w * length xs) (written w bytes xs output) output).0 ≡ refused (number refusal) = ap (λ (x : Answer ℕ × List ℕ). x.0) (sym e) ∙ ap counted f in
-        ap (λ (l : List ℕ). (refused (number refusal), l)) (ap (λ (x : Answer ℕ × List ℕ). x.1) e ∙ keeps (w * length xs) (written w bytes xs output) output tests (number refusal) told)
-        ∙ sym (refuses-alike tests (w * length xs) (written w bytes xs output) output tt (written w bytes xs output) output (number refusal) told)
+        let new = written w bytes xs output in
+        other-turned tests (w * length xs) tt new output after (number refusal) (ap (λ (x : Result ℕ Refusal). (counted x, after)) (sym f) ∙ e)
 
     pub wrote-done : (n : ℕ) → wrote ≡ Ok n → (given tt, after) ≡ done
     unfolding write_records
     wrote-done n f =
-        let told = gives tests (w * length xs) (written w bytes xs output) output (counted wrote, after) n e (ap counted f) in
-        ap (λ (l : List ℕ). (given tt, l)) told.2 ∙ sym (accepts tt (written w bytes xs output) output tests told.0)
+        let new = written w bytes xs output in
+        other-given tests (w * length xs) tt new output after n (ap (λ (x : Result ℕ Refusal). (counted x, after)) (sym f) ∙ e)
 
 -- ---- the round trips, from the round trip of one record
 

@@ -101,6 +101,19 @@ module _ {A B C D : Type 0} (tests : Tests) (values : A) (new old : B) (values' 
   pub gives-alike : (a : A) → (outcome tests values new old).0 ≡ given a → outcome tests values' new' old' ≡ (given values', new')
   gives-alike a e = accepts values' new' old' tests (accepted values new old tests a e)
 
+-- The same call with other values: turned down alike, or given the other values.
+module _ {A C B : Type 0} (tests : Tests) (values : A) (values' : C) (new old after : B) where
+  pub other-turned : (k : ℕ) → (refused k, after) ≡ outcome tests values new old → (refused k, after) ≡ outcome tests values' new old
+  other-turned k e =
+      let told : (outcome tests values new old).0 ≡ refused k = ap (λ (x : Answer A × B). x.0) (sym e) in
+      ap (λ (l : B). (refused k, l)) (ap (λ (x : Answer A × B). x.1) e ∙ keeps values new old tests k told)
+      ∙ sym (refuses-alike tests values new old values' new old k told)
+
+  pub other-given : (a : A) → (given a, after) ≡ outcome tests values new old → (given values', after) ≡ outcome tests values' new old
+  other-given a e =
+      let told = gives tests values new old (given a, after) a e refl in
+      ap (λ (l : B). (given values', l)) told.2 ∙ sym (accepts values' new old tests told.0)
+
 pub accepts-both : (tests later : Tests) → Accepts tests → Accepts later → Accepts (tests ++ later)
 accepts-both [] later g h = h
 accepts-both (t ∷ tests) later g h = (g.0, accepts-both tests later g.1 h)

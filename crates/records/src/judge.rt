@@ -6,6 +6,7 @@ ghost use Rattle.records.specs.Refusals.{verdict, answer};
 ghost use Rattle.records.specs.Jobs.{job_ok, job_ok_at, job_tests, size_tests, table_tests};
 ghost use Rattle.records.specs.Calls.{question_tests};
 
+use crate::call::Call;
 use crate::job::Job;
 use crate::range::Range;
 use crate::refusal::Refusal;
@@ -100,11 +101,11 @@ pub(crate) fn judge_table(table: [Job; Job::MOST], n: usize) -> Result<(), Refus
     judge_jobs(table, n)
 }
 
-// Judges a table of n jobs and a range. No entry; refusals 1, 2, 3, 5 and 6.
-pub fn judge_question(table: [Job; Job::MOST], n: usize, range: Range) -> Result<(), Refusal>
-    ensures { verdict result ≡ answer (question_tests n table range) tt }
+// Judges a call's jobs and its range. No entry; refusals 1, 2, 3, 5 and 6.
+pub fn judge_question(call: Call) -> Result<(), Refusal>
+    ensures { verdict result ≡ answer (question_tests call.jobs.count call.jobs.table call.range) tt }
 {
-    judge_table(table, n)?;
-    Range::new(range.low, range.high)?;
+    judge_table(call.jobs.table, call.jobs.count)?;
+    Range::new(call.range.low, call.range.high)?;
     Ok(())
 }

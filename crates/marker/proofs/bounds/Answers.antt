@@ -1,8 +1,11 @@
 use Prim.Native.Nat.{ℕ}
-use mathlib.Core.Path.{ap₂, ◌∙◌}
+use mathlib.Core.Path.{◌≡◌, sym, ap, ap₂, ◌∙◌}
 use mathlib.Core.List.{List, [], ◌++◌}
 use lib.ListN.{length}
-use Rattle.records.specs.Refusals.{Tests}
+use Rattle.std.specs.Prelude.{Result}
+use Rattle.std.proofs.lemmas.Result.{err_from_is_err_and}
+use Rattle.records.specs.declared.refusal.Refusal.{Refusal}
+use Rattle.records.specs.Refusals.{Tests, handed}
 use Rattle.records.specs.Jobs.{job_list}
 use Rattle.records.specs.declared.job.Job.{Job}
 use Rattle.records.proofs.Asking.{call-turned}
@@ -11,7 +14,7 @@ use Rattle.configuration.specs.Blocks.{settings_of, record_tests, read_settings}
 use Rattle.configuration.proofs.HandIns.{hand-in-turned, hand-in-on}
 use Rattle.marker.specs.Marks.{marked, bounds_room, put_bounds, bounds_outcome}
 use Rattle.marker.proofs.bounds.Goals as goal
-use Rattle.marker.proofs.bounds.Goals.{Start}
+use Rattle.marker.proofs.bounds.Goals.{Start, After-put_bounds}
 
 -- What the call is to come to.
 module _ (c : Start) where
@@ -33,23 +36,39 @@ module _ (c : Start) where
   abbrev tests : List Job → ℕ → ℕ → Tests
   tests list low high = record_tests list low high block
 
-pub returns-in_default : goal.returns-in_default
+pub returns-in_err-call : goal.returns-in_err-call
 unfolding bounds_outcome
-returns-in_default c =
-    call-turned (jobs (goal.at.returns-in_default c).Start) c.args.low c.args.high [] _ c.read_call-call.ensures (tests (goal.at.returns-in_default c).Start (job_list (jobs (goal.at.returns-in_default c).Start)) c.args.low c.args.high ++ room (goal.at.returns-in_default c).Start) tt (new (goal.at.returns-in_default c).Start) (output (goal.at.returns-in_default c).Start)
-    _ _ c.in_default.is c.refusal_of.ensures
+returns-in_err-call c =
+    let s = (goal.at.returns-in_err-call c).Start in
+    let a = c.args in
+    let p = err_from_is_err_and c.from_residual.result c.from_residual.ensures.1 in
+    rw (p.1, p.2) (call-turned (jobs s) a.low a.high [] c.read_call.result c.read_call.ensures (tests s (job_list (jobs s)) a.low a.high ++ room s) tt (new s) (output s) _ c.in_err-call.was)
 
-pub returns-in-Refused : goal.returns-in-Refused
+pub returns-in_err-settings : goal.returns-in_err-settings
 unfolding bounds_outcome read_settings
-returns-in-Refused c =
-    hand-in-turned (jobs (goal.at.returns-in-Refused c).Start) c.args.low c.args.high [] _ c.read_call-call.ensures _ c.in-Count.is (block (goal.at.returns-in-Refused c).Start) (tests (goal.at.returns-in-Refused c).Start) _ c.read_settings-read.ensures (room (goal.at.returns-in-Refused c).Start) tt (new (goal.at.returns-in-Refused c).Start) (output (goal.at.returns-in-Refused c).Start)
-    _ c.in-Refused.is
+returns-in_err-settings c =
+    let s = (goal.at.returns-in_err-settings c).Start in
+    let a = c.args in
+    let p = err_from_is_err_and c.from_residual-in_err-settings.result c.from_residual-in_err-settings.ensures.1 in
+    rw (p.1, p.2)
+    (hand-in-turned (jobs s) a.low a.high [] c.read_call.result c.read_call.ensures _ c.in_ok-call.was (block s) (tests s) c.read_settings.result c.read_settings.ensures (room s) tt (new s) (output s) _ c.in_err-settings.was)
+
+-- What was written is what the whole call comes to.
+coming : (c : After-put_bounds) → let s = (goal.at.After-put_bounds c).Start in
+    (handed c.put_bounds.result (λ b. tt), c.put_bounds.new.output) ≡ bounds_outcome (jobs s) c.args.low c.args.high (block s) (output s)
+unfolding bounds_outcome read_settings put_bounds
+coming c =
+    let s = (goal.at.After-put_bounds c).Start in
+    let a = c.args in
+    let on = hand-in-on (jobs s) a.low a.high [] c.read_call.result c.read_call.ensures _ c.in_ok-call.was (block s) (tests s) c.read_settings.result c.read_settings.ensures (room s) tt (new s) (output s) _ c.in_ok-settings.was in
+    c.put_bounds.ensures.written ∙ ap₂ (λ (l : List Job) (x : List Setting). put_bounds l x (output s)) on.0.list on.0.settings ∙ on.1
+
+pub returns-in_err-put_bounds : goal.returns-in_err-put_bounds
+returns-in_err-put_bounds c =
+    let p = err_from_is_err_and c.from_residual-in_err-put_bounds.result c.from_residual-in_err-put_bounds.ensures.1 in
+    rw (p.1, p.2)
+    (ap (λ (x : Result (List ℕ) Refusal). (handed x (λ b. tt), c.put_bounds.new.output)) (sym c.in_err-put_bounds.was) ∙ coming (goal.at.returns-in_err-put_bounds c).After-put_bounds)
 
 pub returns : goal.returns
-unfolding bounds_outcome read_settings put_bounds
 returns c =
-    let on = hand-in-on (jobs (goal.at.returns c).Start) c.args.low c.args.high [] _ c.read_call-call.ensures _ c.in-Count.is (block (goal.at.returns c).Start) (tests (goal.at.returns c).Start) _ c.read_settings-read.ensures (room (goal.at.returns c).Start) tt (new (goal.at.returns c).Start) (output (goal.at.returns c).Start)
-    _ c.in_default-judged.is in
-    c.put_bounds.ensures
-    ∙ ap₂ (λ (l : List Job) (x : List Setting). put_bounds l x (output (goal.at.returns c).Start)) on.0.list on.0.settings
-    ∙ on.1
+    ap (λ (x : Result (List ℕ) Refusal). (handed x (λ b. tt), c.put_bounds.new.output)) (sym c.in_ok-put_bounds.was) ∙ coming (goal.at.returns c).After-put_bounds
