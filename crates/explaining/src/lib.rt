@@ -1,7 +1,7 @@
 // What is printed of where the ticks of a configuration's bounds go: for each job the sum in words and a bar drawn to scale.
 #![tactic(auto)]
 
-ghost use Rattle.std.specs.Prelude.{◌≡◌, [], ◌∷◌, ◌+◌, ◌^◌, ◌≤◌, ◌<◌, length};
+ghost use Rattle.std.specs.Prelude.{◌≡◌, [], ◌∷◌, ◌+◌, ◌^◌, ◌≤◌, ◌<◌, length, IfOk};
 ghost use Rattle.records.specs.Limits.{most_jobs};
 ghost use Rattle.records.specs.Refusals.{given};
 ghost use Rattle.writing.specs.Templates.{rows_to, Wrote};
@@ -11,9 +11,8 @@ ghost use Rattle.explaining.specs.Explanations.{column_of, cell_of, bar_text, se
 
 use configuration::setting::Setting;
 use records::job::Job;
-use records::refusal::Counted;
+use records::refusal::Refusal;
 use response::parts::Parts;
-use text::answer;
 use text::answer::Told;
 
 // The size of a buffer that holds what is printed of any jobs.
@@ -156,7 +155,7 @@ fn put_explanation(
     n: usize,
 ) -> Told
     requires { (n ≤ most_jobs) × (10930 ≤ length output.old) }
-    ensures { (told result ≡ given (none_over n bounds, (length (rows_to (explain_row jobs settings parts bounds) n), length (explain_text n jobs settings parts bounds)))) × (result.last ≤ result.length) × Wrote 10930 output.old output.new 0 result.length (explain_text n jobs settings parts bounds) }
+    ensures { (told (Ok result) ≡ given (none_over n bounds, (length (rows_to (explain_row jobs settings parts bounds) n), length (explain_text n jobs settings parts bounds)))) × (result.last ≤ result.length) × Wrote 10930 output.old output.new 0 result.length (explain_text n jobs settings parts bounds) }
 {
     let last = put_jobs(output, jobs, settings, parts, bounds, n);
     let length = writing::put_template(
@@ -166,7 +165,7 @@ fn put_explanation(
         &[],
     );
     Told {
-        answer: answer::yes_or_no(marker::table::none_zero(bounds, n)),
+        yes: marker::table::none_zero(bounds, n),
         last,
         length,
     }
@@ -179,23 +178,14 @@ pub fn explain(
     high: u8,
     configuration: &[u8],
     output: &mut [u8; SIZE],
-) -> Told
-    ensures { ((told result, output.new) ≡ explain_outcome jobs.now low high configuration.now output.old) × (result.last ≤ result.length) × (result.length ≤ length output.new) }
+) -> Result<Told, Refusal>
+    ensures { ((told result, output.new) ≡ explain_outcome jobs.now low high configuration.now output.old) × IfOk result (λ t. (t.last ≤ t.length) × (t.length ≤ length output.new)) }
 {
-    let call = records::call::read_call(jobs, low, high);
-    let answer = call.answer;
-    let Counted::Count(n) = answer else {
-        return answer::turned(records::refusal::refusal_of(answer));
-    };
-    let table = call.table;
-    let range = call.range;
-    let read = configuration::block::read_settings(table, n, range, configuration);
-    let judged = read.answer;
-    if let Counted::Refused(refusal) = judged {
-        return answer::turned(refusal);
-    }
-    let settings = read.settings;
-    let bounds = marker::table::bounds_of(table, settings, n);
-    let each = parts::table::breakdown_of(table, settings, n);
-    put_explanation(output, table, settings, each, bounds, Job::at_most(n))
+    let call = records::call::read_call(jobs, low, high)?;
+    let settings = configuration::block::read_settings(call, configuration)?;
+    let table = call.jobs.table;
+    let n = call.jobs.count;
+    let bounds = marker::table::bounds_of(table, settings.table, n);
+    let each = parts::table::breakdown_of(table, settings.table, n);
+    Ok(put_explanation(&mut *output, table, settings.table, each, bounds, Job::at_most(n)))
 }

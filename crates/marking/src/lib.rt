@@ -1,7 +1,7 @@
 // What is printed of a hand-in that is marked: a line per job, and whether it passes; and the bounds of a configuration, in a key's lines.
 #![tactic(auto)]
 
-ghost use Rattle.std.specs.Prelude.{◌≡◌, [], ◌∷◌, ◌+◌, ◌≤◌, min, length};
+ghost use Rattle.std.specs.Prelude.{◌≡◌, [], ◌∷◌, ◌+◌, ◌≤◌, min, length, IfOk};
 ghost use Rattle.std.proofs.lemmas.List.Edits.{sets};
 ghost use Rattle.records.specs.Limits.{most_jobs};
 ghost use Rattle.writing.specs.Templates.{rows_to, Wrote};
@@ -12,9 +12,9 @@ ghost use Rattle.marking.specs.Marks.{mark_line, over_text, none_over, verdict_l
 
 use configuration::setting::Setting;
 use records::job::Job;
-use records::refusal::Counted;
+use records::refusal::Refusal;
 use text::answer::Told;
-use text::{answer, key};
+use text::key;
 
 // The size of a buffer that holds what is printed of any jobs.
 pub const SIZE: usize = 3190;
@@ -104,12 +104,12 @@ fn put_verdict(
 // What is printed of n jobs with their bounds, from the start of the output on.
 fn put_marks(output: &mut [u8], jobs: [Job; Job::MOST], bounds: [u16; Job::MOST], n: usize) -> Told
     requires { (n ≤ most_jobs) × (3190 ≤ length output.old) }
-    ensures { (told result ≡ given (none_over n bounds, (length (rows_to (mark_line jobs bounds) n), length (marks_text n jobs bounds)))) × (result.last ≤ result.length) × Wrote 3190 output.old output.new 0 result.length (marks_text n jobs bounds) }
+    ensures { (told (Ok result) ≡ given (none_over n bounds, (length (rows_to (mark_line jobs bounds) n), length (marks_text n jobs bounds)))) × (result.last ≤ result.length) × Wrote 3190 output.old output.new 0 result.length (marks_text n jobs bounds) }
 {
     let last = put_lines(output, jobs, bounds, n);
     let length = put_verdict(output, last, jobs, bounds, n);
     Told {
-        answer: answer::yes_or_no(marker::table::none_zero(bounds, n)),
+        yes: marker::table::none_zero(bounds, n),
         last,
         length,
     }
@@ -122,35 +122,32 @@ fn put_bounds(
     bounds: [u16; Job::MOST],
     n: usize,
 ) -> Told
-    ensures { (told result ≡ given (none_over (min n most_jobs) bounds, (length (rows_to (job_line settings bounds) (min n most_jobs)), length (rows_to (job_line settings bounds) (min n most_jobs))))) × (result.last ≤ result.length) × (result.length ≤ length output.new) × (output.new ≡ sets output.old 0 (rows_to (job_line settings bounds) (min n most_jobs))) }
+    ensures { (told (Ok result) ≡ given (none_over (min n most_jobs) bounds, (length (rows_to (job_line settings bounds) (min n most_jobs)), length (rows_to (job_line settings bounds) (min n most_jobs))))) × (result.last ≤ result.length) × (result.length ≤ length output.new) × (output.new ≡ sets output.old 0 (rows_to (job_line settings bounds) (min n most_jobs))) }
 {
     let length = key::put_rows(settings, bounds, n, output);
     Told {
-        answer: answer::yes_or_no(marker::table::none_zero(bounds, n)),
+        yes: marker::table::none_zero(bounds, n),
         last: length,
         length,
     }
 }
 
 // What is printed of a configuration block that is marked, at the start of the output, and whether it passes.
-pub fn marks(jobs: &[u8], low: u8, high: u8, configuration: &[u8], output: &mut [u8; SIZE]) -> Told
-    ensures { ((told result, output.new) ≡ marks_outcome jobs.now low high configuration.now output.old) × (result.last ≤ result.length) × (result.length ≤ length output.new) }
+pub fn marks(
+    jobs: &[u8],
+    low: u8,
+    high: u8,
+    configuration: &[u8],
+    output: &mut [u8; SIZE],
+) -> Result<Told, Refusal>
+    ensures { ((told result, output.new) ≡ marks_outcome jobs.now low high configuration.now output.old) × IfOk result (λ t. (t.last ≤ t.length) × (t.length ≤ length output.new)) }
 {
-    let call = records::call::read_call(jobs, low, high);
-    let answer = call.answer;
-    let Counted::Count(n) = answer else {
-        return answer::turned(records::refusal::refusal_of(answer));
-    };
-    let table = call.table;
-    let range = call.range;
-    let read = configuration::block::read_full(table, n, range, configuration);
-    let judged = read.answer;
-    if let Counted::Refused(refusal) = judged {
-        return answer::turned(refusal);
-    }
-    let settings = read.settings;
-    let bounds = marker::table::bounds_of(table, settings, n);
-    put_marks(output, table, bounds, Job::at_most(n))
+    let call = records::call::read_call(jobs, low, high)?;
+    let settings = configuration::block::read_full(call, configuration)?;
+    let table = call.jobs.table;
+    let n = call.jobs.count;
+    let bounds = marker::table::bounds_of(table, settings.table, n);
+    Ok(put_marks(&mut *output, table, bounds, Job::at_most(n)))
 }
 
 // The lines of a configuration block, full or not, with its bounds, at the start of the output, and whether each job is served.
@@ -160,22 +157,13 @@ pub fn bounds(
     high: u8,
     configuration: &[u8],
     output: &mut [u8; key::SIZE],
-) -> Told
-    ensures { ((told result, output.new) ≡ bounds_told jobs.now low high configuration.now output.old) × (result.last ≤ result.length) × (result.length ≤ length output.new) }
+) -> Result<Told, Refusal>
+    ensures { ((told result, output.new) ≡ bounds_told jobs.now low high configuration.now output.old) × IfOk result (λ t. (t.last ≤ t.length) × (t.length ≤ length output.new)) }
 {
-    let call = records::call::read_call(jobs, low, high);
-    let answer = call.answer;
-    let Counted::Count(n) = answer else {
-        return answer::turned(records::refusal::refusal_of(answer));
-    };
-    let table = call.table;
-    let range = call.range;
-    let read = configuration::block::read_settings(table, n, range, configuration);
-    let judged = read.answer;
-    if let Counted::Refused(refusal) = judged {
-        return answer::turned(refusal);
-    }
-    let settings = read.settings;
-    let bounds = marker::table::bounds_of(table, settings, n);
-    put_bounds(output, settings, bounds, n)
+    let call = records::call::read_call(jobs, low, high)?;
+    let settings = configuration::block::read_settings(call, configuration)?;
+    let table = call.jobs.table;
+    let n = call.jobs.count;
+    let bounds = marker::table::bounds_of(table, settings.table, n);
+    Ok(put_bounds(&mut *output, settings.table, bounds, n))
 }
