@@ -4,7 +4,7 @@ use Prim.Native.Nat.{ℕ}
 use mathlib.Core.Path.{◌≡◌, sym, ap₂, ◌∙◌}
 use mathlib.Core.Bool.{Bool}
 use mathlib.Core.List.{List, ◌++◌}
-use lib.ListN.{length, take}
+use lib.ListN.{length}
 use Rattle.records.specs.Refusals.{Answer, Tests, outcome, answer, turned}
 use Rattle.std.specs.Prelude.{Result, Ok, Err}
 use Rattle.records.specs.Jobs.{job_list, listed}

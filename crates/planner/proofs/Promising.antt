@@ -8,7 +8,8 @@ use lib.ListN.{length, take}
 use lib.Seq.{length-take-le, get_or-take}
 use borrow.Author.Tests.{leb-true}
 use Rattle.records.specs.Limits.{most_jobs}
-use Rattle.records.specs.Refusals.{Answer, Tests, Accepts, outcome, answer, refusal_of, turned}
+use Rattle.records.specs.Refusals.{Answer, Tests, Accepts, outcome, answer, turned}
+use Rattle.std.specs.Prelude.{Result, Ok, Err}
 use Rattle.records.specs.Jobs.{blank_job, table_tests, AcceptedJobs, job_list}
 use Rattle.records.specs.Ranges.{range_tests, AcceptedRange}
 use Rattle.records.specs.Calls.{asked, call_tests, question_tests, question}
@@ -16,7 +17,6 @@ use Rattle.records.specs.declared.job.Job.{Job}
 use Rattle.records.specs.declared.range.Range.{Range}
 use Rattle.records.specs.declared.call.Call.{Call}
 use Rattle.records.specs.declared.refusal.Refusal.{Refusal}
-use Rattle.records.specs.declared.refusal.Counted.TheVariants.{Count, Refused}
 use Rattle.records.proofs.Outcomes.{past, accepts-first, accepts-second, gives}
 use Rattle.records.proofs.JobTests.{accepted-take}
 use Rattle.records.proofs.Reading.{accepted-list, jobs-most, cost-at}
@@ -90,7 +90,7 @@ table-promise jobs n range eight got is = record {
 
 -- What planning comes to where the call is turned down, and what put_plan comes to for the table and the range that it hands on where it is
 -- not, `more` being the tests after the range, judged by then.
-module _ (jobs : List ℕ) (low high : ℕ) (more : Tests) (call : Call) (asks : asked call ≡ answer (call_tests jobs low high ++ more) (question jobs low high)) (configuration bounds : List ℕ) where
+module _ (jobs : List ℕ) (low high : ℕ) (more : Tests) (asking : Result Call Refusal) (asks : asked asking ≡ answer (call_tests jobs low high ++ more) (question jobs low high)) (configuration bounds : List ℕ) where
   abbrev own : Plan
   own = plan (job_list jobs) low high
 
@@ -106,15 +106,16 @@ module _ (jobs : List ℕ) (low high : ℕ) (more : Tests) (call : Call) (asks :
   abbrev whole : Outcome
   whole = outcome ((call_tests jobs low high ++ more) ++ later) (values own) new old
 
-  pub put-turned : (k refusal : Refusal) → call.answer ≡ Refused k → refusal ≡ refusal_of call.answer → turned refusal old ≡ whole
-  put-turned k refusal e f = call-turned jobs low high more call asks later (values own) new old k refusal e f
+  pub put-turned : (refusal : Refusal) → asking ≡ Err refusal → turned refusal old ≡ whole
+  put-turned refusal e = call-turned jobs low high more asking asks later (values own) new old refusal e
 
-  pub put_on : (n : ℕ) → call.answer ≡ Count n → put_plan call.table n call.range configuration bounds ≡ whole
+  pub put_on : (call : Call) → asking ≡ Ok call → put_plan call.jobs.table call.jobs.count call.range configuration bounds ≡ whole
   unfolding put_plan
-  put_on n count =
-      let known = (call-knows jobs low high more call asks n count).1 in
-      let made = plan (take n call.table) call.range.low call.range.high in
-      past (question_tests n call.table call.range) (output_tests (take n call.table) (length configuration) (length bounds)) (values made) (written_by made configuration bounds) old
-      (knows-question jobs low high call n known)
+  put_on call e =
+      let known = (call-knows jobs low high more asking asks call e).1 in
+      let n = call.jobs.count in
+      let made = plan (take n call.jobs.table) call.range.low call.range.high in
+      past (question_tests n call.jobs.table call.range) (output_tests (take n call.jobs.table) (length configuration) (length bounds)) (values made) (written_by made configuration bounds) old
+      (knows-question jobs low high call known)
       ∙ ap₂ (λ (l : List Job) (x : Range). let p = plan l x.low x.high in outcome (output_tests l (length configuration) (length bounds)) (values p) (written_by p configuration bounds) old) known.list known.range
-      ∙ sym (call-on jobs low high more call asks later (values own) new old n count)
+      ∙ sym (call-on jobs low high more asking asks later (values own) new old call e)

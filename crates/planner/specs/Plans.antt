@@ -1,20 +1,20 @@
 -- The plan of a table, and the entry plan: what they answer, what is written, which refusal applies first, and what they promise.
 -- Assumes nothing.
-use Rattle.std.specs.Prelude.{ℕ, ◌*◌, ◌≤◌, ◌<◌, ◌≡◌, true, ◌↔◌, List, ◌++◌, length, take, drop}
+use Rattle.std.specs.Prelude.{ℕ, Result, ◌*◌, ◌≤◌, ◌<◌, ◌≡◌, true, ◌↔◌, List, ◌++◌, length, take, drop}
 use Rattle.sets.specs.Sets.{has}
-use Rattle.records.specs.Refusals.{Answer, refused, given, number, Tests, outcome, answer, handed}
+use Rattle.records.specs.Refusals.{Answer, given, Tests, outcome, answer, handed}
 use Rattle.records.specs.Records.{word_bytes, flat, written, room_tests}
 use Rattle.records.specs.Jobs.{job_count, job_list}
 use Rattle.records.specs.Calls.{call_tests, question_tests}
 use Rattle.records.specs.declared.job.Job.{Job}
 use Rattle.records.specs.declared.range.Range.{Range}
+use Rattle.records.specs.declared.refusal.Refusal.{Refusal}
 use Rattle.configuration.specs.Settings.{setting_size, setting_bytes, setting_table}
 use Rattle.configuration.specs.Blocks.{settings_of, read_configuration}
 use Rattle.marker.specs.Marks.{bound_size, bounds_in, bounds_outcome, mark_outcome}
 use Rattle.assignment.specs.Plan.{Plan, plan, plan_by_number}
 use Rattle.assignment.specs.Guarantee.{Guarantee}
-use Rattle.planner.specs.declared.PlanAnswer.{PlanAnswer}
-use Rattle.planner.specs.declared.PlanAnswer.TheVariants.{Planned, Refused}
+use Rattle.planner.specs.declared.Planned.{Planned}
 use Rattle.planner.specs.declared.table.TablePlan.{TablePlan}
 
 -- ---- the plan of a table, in tables
@@ -23,9 +23,9 @@ use Rattle.planner.specs.declared.table.TablePlan.{TablePlan}
 abbrev pub plan_in : ℕ → TablePlan → Plan
 plan_in n r = record { placed = r.placed; considered = r.considered; settings = take n r.settings; bounds = take n r.bounds }
 
--- What plan_table answers: the number of jobs, and the plan.
-abbrev pub planned : TablePlan → Answer (ℕ × Plan)
-planned r = handed r.answer (λ n. (n, plan_in n r))
+-- What plan_table answers: the number of jobs, n, and the plan.
+abbrev pub planned : ℕ → Result TablePlan Refusal → Answer (ℕ × Plan)
+planned n r = handed r (λ p. (n, plan_in n p))
 
 -- What plan_table promises: the plan of the list, and demand 3 of what is given.
 pub record TablePromise (jobs : List Job) (n : ℕ) (range : Range) (got : Answer (ℕ × Plan)) : Type 0 where
@@ -35,15 +35,14 @@ pub record TablePromise (jobs : List Job) (n : ℕ) (range : Range) (got : Answe
 -- ---- the plan of a table, written
 
 -- What plan answers, in 01's numbers and values: the placed set's number, and the count of sets considered.
-abbrev pub plan_answer : PlanAnswer → Answer (ℕ × ℕ)
-plan_answer (Planned placed considered) = given (placed, considered)
-plan_answer (Refused refusal) = refused (number refusal)
+abbrev pub plan_answer : Result Planned Refusal → Answer (ℕ × ℕ)
+plan_answer r = handed r (λ p. (p.placed, p.considered))
 
 -- The answer, and both outputs.
 abbrev pub Outcome : Type 0
 Outcome = Answer (ℕ × ℕ) × (List ℕ × List ℕ)
 
-abbrev pub answered : PlanAnswer → List ℕ → List ℕ → Outcome
+abbrev pub answered : Result Planned Refusal → List ℕ → List ℕ → Outcome
 answered r configuration bounds = (plan_answer r, (configuration, bounds))
 
 -- Refusal 12 of outputs for the settings and the bounds of a list of jobs.

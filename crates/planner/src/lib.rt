@@ -3,7 +3,7 @@
 
 ghost use Rattle.planner.specs.Plans.{answered, Promise};
 
-use records::refusal::{Counted, Refusal};
+use records::refusal::Refusal;
 
 mod choice;
 mod levels;
@@ -12,9 +12,9 @@ pub mod table;
 
 // What the planner answers: the placed set's number and the count of sets considered.
 #[derive(Clone, Copy)]
-pub enum PlanAnswer {
-    Planned(u8, u16),
-    Refused(Refusal),
+pub struct Planned {
+    pub placed: u8,
+    pub considered: u16,
 }
 
 // Plans a job block for a range of quanta: the configuration and the bounds, in the two outputs.
@@ -24,15 +24,9 @@ pub fn plan(
     high: u8,
     configuration: &mut [u8],
     bounds: &mut [u8],
-) -> PlanAnswer
+) -> Result<Planned, Refusal>
     ensures { Promise jobs.now low high configuration.old bounds.old (answered result configuration.new bounds.new) }
 {
-    let call = records::call::read_call(jobs, low, high);
-    let answer = call.answer;
-    let Counted::Count(n) = answer else {
-        return PlanAnswer::Refused(records::refusal::refusal_of(answer));
-    };
-    let table = call.table;
-    let range = call.range;
-    table::put_plan(table, n, range, &mut *configuration, &mut *bounds)
+    let call = records::call::read_call(jobs, low, high)?;
+    table::put_plan(call, &mut *configuration, &mut *bounds)
 }

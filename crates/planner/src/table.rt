@@ -1,51 +1,40 @@
 // The plan of a table of jobs.
-ghost use Rattle.std.specs.Prelude.{◌≡◌, take};
-ghost use Rattle.records.specs.Refusals.{refused, number};
-ghost use Rattle.records.specs.declared.refusal.Counted.TheVariants.{Count};
+ghost use Rattle.std.specs.Prelude.{◌≡◌};
+ghost use Rattle.records.specs.Jobs.{listed};
 ghost use Rattle.assignment.specs.Plan.{plan as plan_of};
 ghost use Rattle.planner.specs.Questions.{Sound};
 ghost use Rattle.planner.specs.Plans.{plan_in, planned, TablePromise, answered, put_plan};
 
 use crate::quanta::{QuantaSearch, Question};
-use crate::{PlanAnswer, levels};
+use crate::{Planned, levels};
 use configuration::setting::Setting;
+use marker::table::BOUND_SIZE;
+use records::call::Call;
 use records::job::Job;
-use records::range::Range;
-use records::refusal::{Counted, Refusal, Verdict};
+use records::record;
+use records::refusal::Refusal;
 use search::workload::Workload;
 
-// The number of jobs, and beside it the plan: the placed set's number, the count of sets considered, the settings and the bounds. What
-// stands beside a refusal says nothing.
+// The plan of a table: the placed set's number, the count of sets considered, and by place the settings and the bounds.
 #[derive(Clone, Copy)]
 pub struct TablePlan {
-    pub answer: Counted,
     pub placed: u8,
     pub considered: u16,
     pub settings: [Setting; Job::MOST],
     pub bounds: [u16; Job::MOST],
 }
 
-fn plan_refused(refusal: Refusal) -> TablePlan
-    ensures { planned result ≡ refused (number refusal) }
+// Plans a call's jobs for its range, both accepted: the sets in their order, a quantum for each job.
+fn plan_jobs(call: Call) -> TablePlan
+    requires { Sound call.jobs.table call.jobs.count call.range }
+    ensures { plan_in call.jobs.count result ≡ plan_of (listed call.jobs) call.range.low call.range.high }
 {
-    TablePlan {
-        answer: Counted::Refused(refusal),
-        placed: 0,
-        considered: 0,
-        settings: [Setting::BLANK; Job::MOST],
-        bounds: [0u16; Job::MOST],
-    }
-}
-
-// Plans n jobs that are accepted, with an accepted range: the sets in their order, a quantum for each job.
-fn plan_jobs(jobs: [Job; Job::MOST], n: usize, range: Range) -> TablePlan
-    requires { Sound jobs n range }
-    ensures { (result.answer ≡ Count n) × (plan_in n result ≡ plan_of (take n jobs) range.low range.high) }
-{
+    let jobs = call.jobs.table;
+    let n = call.jobs.count;
     let question = Question {
         workload: Workload::new(jobs),
         n,
-        range,
+        range: call.range,
         search: QuantaSearch::PerJob,
     };
     let all = sets::first_jobs(n);
@@ -57,7 +46,6 @@ fn plan_jobs(jobs: [Job; Job::MOST], n: usize, range: Range) -> TablePlan
     let settings = progress.settings;
     let bounds = progress.bounds;
     TablePlan {
-        answer: Counted::Count(n),
         placed: sets::rest(all, progress.left),
         considered: progress.considered,
         settings,
@@ -65,41 +53,31 @@ fn plan_jobs(jobs: [Job; Job::MOST], n: usize, range: Range) -> TablePlan
     }
 }
 
-// Plans the first n jobs of a table for a range. No entry; it judges them as the entry does (1, 2, 3, 5, 6), and writes nothing.
-pub fn plan_table(jobs: [Job; Job::MOST], n: usize, range: Range) -> TablePlan
-    ensures { TablePromise jobs n range (planned result) }
+// Plans a call's jobs for its range. No entry; it judges them as the entry does (1, 2, 3, 5, 6), and writes nothing.
+pub fn plan_table(call: Call) -> Result<TablePlan, Refusal>
+    ensures { TablePromise call.jobs.table call.jobs.count call.range (planned call.jobs.count result) }
 {
-    let judged = records::judge::judge_question(jobs, n, range);
-    if let Verdict::Refused(refusal) = judged {
-        return plan_refused(refusal);
-    }
-    plan_jobs(jobs, n, range)
+    records::judge::judge_question(call)?;
+    Ok(plan_jobs(call))
 }
 
 // The same, with the configuration and the bounds written to the two outputs. No entry; it judges the outputs too (12), after the others.
-pub fn put_plan(
-    jobs: [Job; Job::MOST],
-    n: usize,
-    range: Range,
-    configuration: &mut [u8],
-    bounds: &mut [u8],
-) -> PlanAnswer
-    ensures { answered result configuration.new bounds.new ≡ put_plan jobs n range configuration.old bounds.old }
+pub fn put_plan(call: Call, configuration: &mut [u8], bounds: &mut [u8]) -> Result<Planned, Refusal>
+    ensures { answered result configuration.new bounds.new ≡ put_plan call.jobs.table call.jobs.count call.range configuration.old bounds.old }
 {
-    let judged = records::judge::judge_question(jobs, n, range);
-    if let Verdict::Refused(refusal) = judged {
-        return PlanAnswer::Refused(refusal);
-    }
+    records::judge::judge_question(call)?;
+    let n = call.jobs.count;
     if configuration.len() < Setting::SIZE * n {
-        return PlanAnswer::Refused(Refusal::OutputLength);
+        return Err(Refusal::OutputLength);
     }
-    if bounds.len() < marker::block::BOUND_SIZE * n {
-        return PlanAnswer::Refused(Refusal::OutputLength);
+    if bounds.len() < BOUND_SIZE * n {
+        return Err(Refusal::OutputLength);
     }
-    let plan = plan_jobs(jobs, n, range);
-    let settings = plan.settings;
-    let values = plan.bounds;
-    configuration::block::write_settings(settings, n, &mut *configuration);
-    marker::block::write_bounds(values, n, &mut *bounds);
-    PlanAnswer::Planned(plan.placed, plan.considered)
+    let plan = plan_jobs(call);
+    record::write(&plan.settings[..n], &mut *configuration)?;
+    record::write(&plan.bounds[..n], &mut *bounds)?;
+    Ok(Planned {
+        placed: plan.placed,
+        considered: plan.considered,
+    })
 }

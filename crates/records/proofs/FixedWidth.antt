@@ -211,6 +211,15 @@ pub has_room : {A : Type 0} (w : ℕ) (bytes : A → List ℕ) (xs : List A) (ou
 unfolding write_records
 has_room w bytes xs output h = simp (le-leb (w * length xs) (length output) h)
 
+-- And it is not turned down.
+pub never-turned : {A : Type 0} (w : ℕ) (bytes : A → List ℕ) (xs : List A) (output : List ℕ) (wrote : Result ℕ Refusal) (after : List ℕ)
+    → (counted wrote, after) ≡ write_records w bytes xs output → w * length xs ≤ length output → (refusal : Refusal) → wrote ≡ Err refusal → ⊥
+unfolding write_records
+never-turned w bytes xs output wrote after e h refusal f =
+    let room : write_records w bytes xs output ≡ (given (w * length xs), written w bytes xs output) = simp (le-leb (w * length xs) (length output) h) in
+    let same : refused (number refusal) ≡ given (w * length xs) = ap (λ (x : Answer ℕ × List ℕ). x.0) (ap (λ (x : Result ℕ Refusal). (counted x, after)) (sym f) ∙ e ∙ room) in
+    cc
+
 -- What a writer gives is within its output.
 pub wrote-within : {A : Type 0} (w : ℕ) (bytes : A → List ℕ) (xs : List A) (output : List ℕ) (got : Answer ℕ × List ℕ) (size : ℕ) → got ≡ write_records w bytes xs output
     → got.0 ≡ given size → size ≤ length output

@@ -14,7 +14,7 @@ use borrow.Author.Rules.{rules}
 use Rattle.planner.proofs.table.plan_jobs.Goals as goal
 use Rattle.planner.proofs.table.plan_jobs.Goals.{After-subsets_of-alone, Start}
 
-eight : (c : Start) → length c.args.jobs ≡ most_jobs
+eight : (c : Start) → length c.args.call.jobs.table ≡ most_jobs
 eight c = search rules
 
 -- The sets of one job.
@@ -36,20 +36,23 @@ slice_bounds-plan_levels-end c = sym (length-take-le (count (goal.at.slice_bound
 
 pub plan_levels-progress-requires : goal.plan_levels-progress-requires
 plan_levels-progress-requires c =
-    let a = c.args in (
-      sound-accepted a.jobs a.n a.range (eight (goal.at.plan_levels-progress-requires c).Start) c.requires c.new.result c.new.ensures,
-      table-sorted a.jobs a.n a.range (eight (goal.at.plan_levels-progress-requires c).Start) c.requires c.new.result c.new.ensures
+    let call = c.args.call in
+    let jobs = call.jobs.table in
+    let n = call.jobs.count in (
+      sound-accepted jobs n call.range (eight (goal.at.plan_levels-progress-requires c).Start) c.requires c.new.result c.new.ensures,
+      table-sorted jobs n call.range (eight (goal.at.plan_levels-progress-requires c).Start) c.requires c.new.result c.new.ensures
           c.sums_of-sums.result _ c.subsets_of-alone.result c.sums_of-sums.ensures c.first_jobs-all.ensures c.subsets_of-alone.ensures (long (goal.at.plan_levels-progress-requires c).After-subsets_of-alone),
     )
 
 pub returns : goal.returns
 returns c =
-    let a = c.args in
+    let call = c.args.call in
+    let jobs = call.jobs.table in
+    let n = call.jobs.count in
     let r = c.plan_levels-progress.result in
-    let A = sound-accepted a.jobs a.n a.range (eight (goal.at.returns c).Start) c.requires c.new.result c.new.ensures in
-    let placed = c.rest.ensures ∙ ap (λ (x : ℕ). rest x r.left) c.first_jobs-all.ensures in (
-      refl,
-      ap (λ (x : ℕ). record { placed = x; considered = r.considered; settings = take a.n r.settings; bounds = take a.n r.bounds }) placed
-          ∙ plan-made c.new.result a.n a.range A r c.plan_levels-progress.ensures
-          ∙ ap (λ (l : List Job). plan (take a.n l) a.range.low a.range.high) (jobs-are a.jobs a.n a.range (eight (goal.at.returns c).Start) c.requires c.new.result c.new.ensures),
-    )
+    let s = (goal.at.returns c).Start in
+    let A = sound-accepted jobs n call.range (eight s) c.requires c.new.result c.new.ensures in
+    let placed = c.rest.ensures ∙ ap (λ (x : ℕ). rest x r.left) c.first_jobs-all.ensures in
+    ap (λ (x : ℕ). record { placed = x; considered = r.considered; settings = take n r.settings; bounds = take n r.bounds }) placed
+    ∙ plan-made c.new.result n call.range A r c.plan_levels-progress.ensures
+    ∙ ap (λ (l : List Job). plan (take n l) call.range.low call.range.high) (jobs-are jobs n call.range (eight s) c.requires c.new.result c.new.ensures)

@@ -1,52 +1,57 @@
 use Prim.Native.Nat.{ℕ}
 use mathlib.Core.Path.{◌≡◌, sym, ap, ◌∙◌}
-use lib.ListN.{length, take}
+use lib.ListN.{length}
+use Rattle.std.proofs.lemmas.Result.{err_from_is_err_and}
 use Rattle.records.specs.Limits.{most_jobs}
-use Rattle.records.specs.Refusals.{Answer, given, handed, Accepts}
+use Rattle.records.specs.Refusals.{Answer, given, verdict, Accepts}
+use Rattle.records.specs.Jobs.{listed}
 use Rattle.records.specs.Calls.{question_tests}
-use Rattle.records.specs.declared.refusal.Counted.{Counted}
 use Rattle.records.proofs.Outcomes.{refuses-alike, gives-alike, judged-accepts}
-use Rattle.records.specs.Refusals.{verdict}
 use Rattle.assignment.specs.Plan.{Plan, plan}
-use Rattle.planner.specs.Plans.{plan_in}
 use Rattle.planner.proofs.Promising.{question-sound, table-promise}
 use borrow.Author.Rules.{rules}
 use Rattle.planner.proofs.table.plan_table.Goals as goal
-use Rattle.planner.proofs.table.plan_table.Goals.{In_default, Start}
+use Rattle.planner.proofs.table.plan_table.Goals.{In_ok-judge_question, Start}
 
--- The plan of the first n jobs.
+-- The plan of the call's jobs.
 module _ (c : Start) where
   abbrev own : Plan
-  own = let a = c.args in plan (take a.n a.jobs) a.range.low a.range.high
+  own = let call = c.args.call in plan (listed call.jobs) call.range.low call.range.high
 
-  eight : length c.args.jobs ≡ most_jobs
+  eight : length c.args.call.jobs.table ≡ most_jobs
   eight = search rules
 
   abbrev told : Answer (ℕ × Plan) × Unit {0} → Answer (ℕ × Plan)
   told x = x.0
 
-pub returns-in-Refused : goal.returns-in-Refused
-returns-in-Refused c =
-    let a = c.args in
-    table-promise a.jobs a.n a.range (eight (goal.at.returns-in-Refused c).Start) _
-    (c.plan_refused.ensures
-    ∙ sym (ap (told (goal.at.returns-in-Refused c).Start) (refuses-alike (question_tests a.n a.jobs a.range) tt tt tt (a.n, own (goal.at.returns-in-Refused c).Start) tt tt _ (sym c.judge_question-judged.ensures ∙ ap verdict c.in-Refused.is))))
+pub returns-in_err-judge_question : goal.returns-in_err-judge_question
+returns-in_err-judge_question c =
+    let s = (goal.at.returns-in_err-judge_question c).Start in
+    let call = c.args.call in
+    let n = call.jobs.count in
+    let jobs = call.jobs.table in
+    let p = err_from_is_err_and c.from_residual.result c.from_residual.ensures.1 in
+    rw (p.1, p.2)
+    (table-promise jobs n call.range (eight s) _
+    (sym (ap (told s) (refuses-alike (question_tests n jobs call.range) tt tt tt (n, own s) tt tt _ (sym c.judge_question.ensures ∙ ap verdict c.in_err-judge_question.was)))))
 
 -- Accepted by the judge.
-accepted : (c : In_default) → let a = c.args in Accepts (question_tests a.n a.jobs a.range)
+accepted : (c : In_ok-judge_question) → let call = c.args.call in Accepts (question_tests call.jobs.count call.jobs.table call.range)
 accepted c =
-    let a = c.args in
-    judged-accepts (question_tests a.n a.jobs a.range) _ c.judge_question-judged.ensures c.in_default.is
+    let call = c.args.call in
+    judged-accepts (question_tests call.jobs.count call.jobs.table call.range) c.judge_question.result c.judge_question.ensures _ c.in_ok-judge_question.was
 
 pub plan_jobs-requires : goal.plan_jobs-requires
 plan_jobs-requires c =
-    question-sound c.args.jobs c.args.n c.args.range (eight (goal.at.plan_jobs-requires c).Start) (accepted (goal.at.plan_jobs-requires c).In_default)
+    let call = c.args.call in
+    question-sound call.jobs.table call.jobs.count call.range (eight (goal.at.plan_jobs-requires c).Start) (accepted (goal.at.plan_jobs-requires c).In_ok-judge_question)
 
 pub returns : goal.returns
 returns c =
-    let a = c.args in
-    let r = c.plan_jobs.result in
-    table-promise a.jobs a.n a.range (eight (goal.at.returns c).Start) _
-    (ap (λ (x : Counted). handed x (λ k. (k, plan_in k r))) c.plan_jobs.ensures.0
-    ∙ ap (λ (x : Plan). given (a.n, x)) c.plan_jobs.ensures.1
-    ∙ sym (ap (told (goal.at.returns c).Start) (gives-alike (question_tests a.n a.jobs a.range) tt tt tt (a.n, own (goal.at.returns c).Start) tt tt tt (sym c.judge_question-judged.ensures ∙ ap verdict c.in_default.is))))
+    let s = (goal.at.returns c).Start in
+    let call = c.args.call in
+    let n = call.jobs.count in
+    let jobs = call.jobs.table in
+    table-promise jobs n call.range (eight s) _
+    (ap (λ (x : Plan). given (n, x)) c.plan_jobs.ensures
+    ∙ sym (ap (told s) (gives-alike (question_tests n jobs call.range) tt tt tt (n, own s) tt tt tt (sym c.judge_question.ensures ∙ ap verdict c.in_ok-judge_question.was))))
