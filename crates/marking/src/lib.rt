@@ -108,8 +108,9 @@ fn put_marks(output: &mut [u8], jobs: [Job; Job::MOST], bounds: [u16; Job::MOST]
 {
     let last = put_lines(output, jobs, bounds, n);
     let length = put_verdict(output, last, jobs, bounds, n);
+    let passes = marker::table::none_zero(bounds, n);
     Told {
-        yes: marker::table::none_zero(bounds, n),
+        yes: passes,
         last,
         length,
     }

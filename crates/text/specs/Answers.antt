@@ -1,6 +1,6 @@
 -- What a function that writes a text answers beside it: yes or no, or why there is no text. Assumes nothing.
-use Rattle.std.specs.Prelude.{ℕ, Bool, Result, Ok, Err}
-use Rattle.records.specs.Refusals.{Answer, refused, given, handed}
+use Rattle.std.specs.Prelude.{ℕ, Bool, Result}
+use Rattle.records.specs.Refusals.{Answer, handed}
 use Rattle.records.specs.declared.refusal.Refusal.{Refusal}
 use Rattle.text.specs.declared.answer.Told.{Told}
 

@@ -3,14 +3,13 @@ ghost use Rattle.std.specs.Prelude.{◌≡◌, [], ◌∷◌, ◌+◌, ◌≤◌
 ghost use Rattle.std.proofs.lemmas.List.Edits.{sets};
 ghost use Rattle.records.specs.Limits.{most_jobs};
 ghost use Rattle.writing.specs.Templates.{rows_to, Wrote};
+ghost use Rattle.records.specs.Refusals.{number};
 ghost use Rattle.text.specs.Answers.{answered};
 ghost use Rattle.text.specs.Keys.{job_line, table_text, refused_text, key_of, key_answer, KeyPromise};
 
-use crate::answer;
-use crate::answer::Answered;
 use configuration::setting::Setting;
 use records::job::Job;
-use records::refusal::Counted;
+use records::refusal::Refusal;
 
 // The size of a buffer that holds every key.
 pub const SIZE: usize = 940;
@@ -94,8 +93,18 @@ pub fn refused(number: u8, output: &mut [u8; SIZE]) -> usize
 // The answer beside a key, and the key's length.
 #[derive(Clone, Copy)]
 pub struct Keyed {
-    pub answer: Answered,
+    pub answer: Result<bool, Refusal>,
     pub length: usize,
+}
+
+// The key of a call that is turned down.
+fn refused_key(output: &mut [u8; SIZE], refusal: Refusal) -> Keyed
+    ensures { (result.answer ≡ Err refusal) × Wrote 100 output.old output.new 0 result.length (refused_text (number refusal)) }
+{
+    Keyed {
+        answer: Err(refusal),
+        length: put_refused(output, refusal.number()),
+    }
 }
 
 // The text for a job block and a range, at the start of the output, and whether each job is placed. It is made of the plan's tables: the
@@ -103,38 +112,20 @@ pub struct Keyed {
 pub fn answer_key(jobs: &[u8], low: u8, high: u8, output: &mut [u8; SIZE]) -> Keyed
     ensures { (result.length ≤ length output.new) × (output.new ≡ sets output.old 0 (key_of jobs.now low high)) × KeyPromise jobs.now low high (take result.length output.new) × (answered result.answer ≡ key_answer jobs.now low high) }
 {
-    let call = records::call::read_call(jobs, low, high);
-    let answer = call.answer;
-    let Counted::Count(n) = answer else {
-        let refusal = records::refusal::refusal_of(answer);
-        let length = put_refused(output, refusal.number());
-        return Keyed {
-            answer: Answered::Refused(refusal),
-            length,
-        };
+    let call = match records::call::read_call(jobs, low, high) {
+        Ok(call) => call,
+        Err(refusal) => return refused_key(output, refusal),
     };
-    let table = call.table;
-    let range = call.range;
-    let plan = planner::table::plan_table(table, n, range);
-    let planned = plan.answer;
-    match planned {
-        Counted::Count(count) => {
-            let settings = plan.settings;
-            let bounds = plan.bounds;
-            let placed = sets::size(plan.placed);
-            let length = put_key(output, settings, bounds, placed, count);
-            Keyed {
-                answer: answer::yes_or_no(placed as usize == count),
-                length,
-            }
-        }
-        Counted::Refused(refusal) => {
-            let length = put_refused(output, refusal.number());
-            Keyed {
-                answer: Answered::Refused(refusal),
-                length,
-            }
-        }
+    let plan = match planner::table::plan_table(call) {
+        Ok(plan) => plan,
+        Err(refusal) => return refused_key(output, refusal),
+    };
+    let n = call.jobs.count;
+    let placed = sets::size(plan.placed);
+    let length = put_key(output, plan.settings, plan.bounds, placed, n);
+    Keyed {
+        answer: Ok(placed as usize == n),
+        length,
     }
 }
 

@@ -16,7 +16,7 @@ returns c =
     let n : min a.n most_jobs ≡ a.n = omega (arith, c.requires.0) in
     let all = then c.put_lines-last.ensures c.put_verdict-length.ensures in (
       ap₂ (λ (b : Bool) (y : ℕ × ℕ). given (b, y))
-          (c.none_zero.ensures ∙ ap (λ (k : ℕ). none_over k a.bounds) n)
+          (c.none_zero-passes.ensures ∙ ap (λ (k : ℕ). none_over k a.bounds) n)
           (ap₂ (λ (x y : ℕ). (x, y)) (c.put_lines-last.ensures.next ∙ zero-add _) (all.next ∙ zero-add _)),
       omega (arith, c.put_verdict-length.ensures.next),
       all,

@@ -1,11 +1,10 @@
 use mathlib.Core.Path.{sym, ap}
 use mathlib.Core.Bool.{Bool, cond}
 use mathlib.Core.List.{[], ◌∷◌}
-use native.Mathlib.Omega.{arith}
-use borrow.Author.Tests.{eq-eqb, ne_eqb}
+use borrow.Author.Tests.{eq-eqb}
 use Rattle.lists.specs.Decimals.{space, decimal}
 use Rattle.writing.specs.Templates.{filled}
-use Rattle.writing.proofs.Writing.{retold, widened, nothing}
+use Rattle.writing.proofs.Writing.{retold}
 use borrow.Author.Rules.{rules}
 use Rattle.marking.proofs.put_over.Goals as goal
 

@@ -4,11 +4,10 @@ use mathlib.Core.List.{[], ◌∷◌}
 use native.Mathlib.Omega.{arith}
 use lib.ListN.{length, get_or, take, length-take}
 use lib.Seq.{get_or-take}
-use Rattle.std.proofs.lemmas.Slice.Zip.{zip_turn, zip_end}
-use Rattle.records.specs.Limits.{most_jobs}
+use Rattle.std.proofs.lemmas.Slice.Zip.{zip_turn}
 use Rattle.records.specs.Jobs.{blank_job}
 use Rattle.records.specs.declared.job.Job.{Job}
-use Rattle.writing.proofs.Writing.{no-part, next-fits, row-more, rows-all}
+use Rattle.writing.proofs.Writing.{row-more}
 use Rattle.marking.specs.Marks.{over_text}
 use borrow.Author.Rules.{rules}
 use Rattle.marking.proofs.put_overs.Goals as goal

@@ -1,16 +1,14 @@
-use Prim.Native.Nat.{ℕ, ◌*◌, ◌<◌}
-use mathlib.Core.Path.{◌≡◌, refl, ap, ap₂, subst, ◌∙◌}
-use mathlib.Core.List.{[], ◌∷◌, ◌++◌}
+use Prim.Native.Nat.{ℕ, ◌<◌}
+use mathlib.Core.Path.{◌≡◌, ap₂, ◌∙◌}
+use mathlib.Core.List.{[], ◌∷◌}
 use native.Mathlib.Omega.{arith}
 use lib.ListN.{length, get_or, take, length-take}
 use lib.Seq.{get_or-take}
-use Rattle.std.proofs.lemmas.Slice.Zip.{zip_turn, zip_end}
+use Rattle.std.proofs.lemmas.Slice.Zip.{zip_turn}
 use Rattle.configuration.specs.declared.setting.Setting.{Setting}
 use Rattle.configuration.specs.Settings.{blank_setting}
-use Rattle.writing.specs.Templates.{rows_to, Wrote}
 use Rattle.text.specs.Keys.{job_line}
-use Rattle.writing.proofs.Writing.{no-part, next-fits, row-more, rows-all}
-use Rattle.records.specs.Limits.{most_jobs}
+use Rattle.writing.proofs.Writing.{row-more}
 use borrow.Author.Rules.{rules}
 use Rattle.text.proofs.key.put_jobs.Goals as goal
 use Rattle.text.proofs.key.put_jobs.Goals.{In-Some}
