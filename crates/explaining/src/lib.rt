@@ -187,5 +187,12 @@ pub fn explain(
     let n = call.jobs.count;
     let bounds = marker::table::bounds_of(table, settings.table, n);
     let each = parts::table::breakdown_of(table, settings.table, n);
-    Ok(put_explanation(&mut *output, table, settings.table, each, bounds, Job::at_most(n)))
+    Ok(put_explanation(
+        &mut *output,
+        table,
+        settings.table,
+        each,
+        bounds,
+        Job::at_most(n),
+    ))
 }

@@ -1,6 +1,6 @@
 use mathlib.Core.List.{[], ◌∷◌}
 use native.Mathlib.Omega.{arith}
-use Rattle.writing.proofs.Writing.{retold, no-part, next-fits, row-next, rows-all}
+use Rattle.writing.proofs.Writing.{retold, next-fits, row-next, rows-all}
 use Rattle.explaining.specs.Explanations.{columns, cell_of}
 use Rattle.explaining.proofs.Explaining.{cell-filled}
 use Rattle.explaining.proofs.put_bar.Goals as goal

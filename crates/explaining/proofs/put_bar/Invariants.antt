@@ -1,9 +1,7 @@
-use Prim.Native.Nat.{◌+◌, ◌*◌, ◌-◌, ◌≤◌}
-use mathlib.Core.Path.{◌≡◌}
+use Prim.Native.Nat.{◌*◌}
 use mathlib.Core.List.{[], ◌∷◌}
-use lib.ListN.{length}
 use Rattle.writing.specs.Templates.{rows_to, Wrote}
-use Rattle.explaining.specs.Explanations.{columns, cell_of}
+use Rattle.explaining.specs.Explanations.{cell_of}
 use Rattle.explaining.proofs.put_bar.Given as goal
 
 abbrev pub invariant-loop-column : goal.invariant-loop-column

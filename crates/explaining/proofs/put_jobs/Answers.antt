@@ -1,5 +1,4 @@
-use native.Mathlib.Omega.{arith}
-use Rattle.writing.proofs.Writing.{no-part, next-fits, row-next, rows-all}
+use Rattle.writing.proofs.Writing.{row-next}
 use Rattle.explaining.specs.Explanations.{explain_row}
 use Rattle.explaining.proofs.put_jobs.Goals as goal
 
