@@ -126,7 +126,7 @@ fn put_job(
     )
 }
 
-// The lines of n jobs, from the start of the output on.
+// The lines of n jobs, from the start of the output on; by places, since a line takes an entry of each of four tables.
 fn put_jobs(
     output: &mut [u8],
     jobs: [Job; Job::MOST],

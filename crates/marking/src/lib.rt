@@ -65,7 +65,8 @@ fn put_over(output: &mut [u8], at: usize, job: Job, bound: u16) -> usize
     writing::put_template(output, at, b" %", &[job.id as u32])
 }
 
-// The ids of the jobs of n that have no bound.
+// The ids of the jobs of n that have no bound. Its loop stands beside that of put_lines: they differ in what a row writes, and a clause on a
+// closure that writes is longer than the loop.
 fn put_overs(
     output: &mut [u8],
     from: usize,

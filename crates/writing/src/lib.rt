@@ -1,5 +1,5 @@
 // Text in a lent buffer, by templates in which each `%` stands for a number. Each function writes from a place on and gives the place after
-// what it wrote.
+// what it wrote. A struct that held the lent buffer and the place would need a clause in each contract that it still holds the same buffer.
 #![tactic(auto)]
 
 ghost use Rattle.std.specs.Prelude.{◌≡◌, ◌∷◌, [], ◌+◌, ◌*◌, ◌%◌, ◌≤◌, ◌<◌, length, get_or, drop};
