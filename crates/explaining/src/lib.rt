@@ -1,7 +1,7 @@
 // What is printed of where the ticks of a configuration's bounds go: for each job the sum in words and a bar drawn to scale.
 #![tactic(auto)]
 
-ghost use Rattle.std.specs.Prelude.{◌≡◌, ◌+◌, ◌^◌, ◌≤◌, ◌<◌, length};
+ghost use Rattle.std.specs.Prelude.{◌≡◌, [], ◌∷◌, ◌+◌, ◌^◌, ◌≤◌, ◌<◌, length, IfOk};
 ghost use Rattle.records.specs.Limits.{most_jobs};
 ghost use Rattle.records.specs.Refusals.{given};
 ghost use Rattle.writing.specs.Templates.{rows_to, Wrote};
@@ -11,9 +11,8 @@ ghost use Rattle.explaining.specs.Explanations.{column_of, cell_of, bar_text, se
 
 use configuration::setting::Setting;
 use records::job::Job;
-use records::refusal::Counted;
+use records::refusal::Refusal;
 use response::parts::Parts;
-use text::answer;
 use text::answer::Told;
 
 // The size of a buffer that holds what is printed of any jobs.
@@ -63,11 +62,9 @@ fn put_bar(output: &mut [u8], from: usize, parts: Parts, deadline: u16) -> usize
     ensures { Wrote 500 output.old output.new from result (bar_text parts deadline) }
 {
     let mut at = from;
-    let mut column: u32 = 0;
-    while column < COLUMNS {
+    for column in 0..COLUMNS {
         let cell = [cell_of(parts, deadline, column)];
-        at = writing::put_template(output, at, &cell, [0u32; writing::MOST]);
-        column += 1;
+        at = writing::put_template(output, at, &cell, &[]);
     }
     at
 }
@@ -81,7 +78,7 @@ fn put_served(output: &mut [u8], at: usize, job: Job, parts: Parts, bound: u16) 
         output,
         at,
         b"job %: % own + % layer + % above + % late - % = % of %\n  ",
-        [
+        &[
             job.id as u32,
             parts.own,
             parts.share,
@@ -97,48 +94,39 @@ fn put_served(output: &mut [u8], at: usize, job: Job, parts: Parts, bound: u16) 
         output,
         after_bar,
         b"|  bound %, instance %\n",
-        [parts.which as u32, parts.instance as u32, 0, 0, 0, 0, 0, 0],
+        &[parts.which as u32, parts.instance as u32],
     )
 }
 
-// The lines of the job at place k.
+// The lines of a job with its setting, its parts and its bound.
 fn put_job(
     output: &mut [u8],
     at: usize,
-    jobs: [Job; Job::MOST],
-    settings: [Setting; Job::MOST],
-    parts: [Parts; Job::MOST],
-    bounds: [u16; Job::MOST],
-    k: usize,
+    job: Job,
+    setting: Setting,
+    parts: Parts,
+    bound: u16,
 ) -> usize
-    requires { (at + 1300 ≤ length output.old) × (k < most_jobs) }
-    ensures { Wrote 1300 output.old output.new at result (explain_row jobs settings parts bounds k) }
+    requires { at + 1300 ≤ length output.old }
+    ensures { Wrote 1300 output.old output.new at result (explain_row (job ∷ []) (setting ∷ []) (parts ∷ []) (bound ∷ []) 0) }
 {
-    let job = jobs[k];
-    let setting = settings[k];
-    let bound = bounds[k];
     if bound != 0 {
-        return put_served(output, at, job, parts[k], bound);
+        return put_served(output, at, job, parts, bound);
     }
     let id = job.id as u32;
     let deadline = job.deadline as u32;
     if setting.level == 0 {
-        return writing::put_template(
-            output,
-            at,
-            b"job %: not placed\n",
-            [id, 0, 0, 0, 0, 0, 0, 0],
-        );
+        return writing::put_template(output, at, b"job %: not placed\n", &[id]);
     }
     writing::put_template(
         output,
         at,
         b"job %: no bound up to its deadline %\n",
-        [id, deadline, 0, 0, 0, 0, 0, 0],
+        &[id, deadline],
     )
 }
 
-// The lines of n jobs, from the start of the output on.
+// The lines of n jobs, from the start of the output on; by places, since a line takes an entry of each of four tables.
 fn put_jobs(
     output: &mut [u8],
     jobs: [Job; Job::MOST],
@@ -151,10 +139,8 @@ fn put_jobs(
     ensures { Wrote 10400 output.old output.new 0 result (rows_to (explain_row jobs settings parts bounds) n) }
 {
     let mut at = 0;
-    let mut k = 0;
-    while k < n {
-        at = put_job(output, at, jobs, settings, parts, bounds, k);
-        k += 1;
+    for k in 0..n {
+        at = put_job(output, at, jobs[k], settings[k], parts[k], bounds[k]);
     }
     at
 }
@@ -169,17 +155,17 @@ fn put_explanation(
     n: usize,
 ) -> Told
     requires { (n ≤ most_jobs) × (10930 ≤ length output.old) }
-    ensures { (told result ≡ given (none_over n bounds, (length (rows_to (explain_row jobs settings parts bounds) n), length (explain_text n jobs settings parts bounds)))) × (result.last ≤ result.length) × Wrote 10930 output.old output.new 0 result.length (explain_text n jobs settings parts bounds) }
+    ensures { (told (Ok result) ≡ given (none_over n bounds, (length (rows_to (explain_row jobs settings parts bounds) n), length (explain_text n jobs settings parts bounds)))) × (result.last ≤ result.length) × Wrote 10930 output.old output.new 0 result.length (explain_text n jobs settings parts bounds) }
 {
     let last = put_jobs(output, jobs, settings, parts, bounds, n);
     let length = writing::put_template(
         output,
         last,
         b"# own  = layer  - above  ~ late  . spare  | deadline\n",
-        [0u32; writing::MOST],
+        &[],
     );
     Told {
-        answer: answer::yes_or_no(marker::table::none_zero(bounds, n)),
+        yes: marker::table::none_zero(bounds, n),
         last,
         length,
     }
@@ -192,23 +178,21 @@ pub fn explain(
     high: u8,
     configuration: &[u8],
     output: &mut [u8; SIZE],
-) -> Told
-    ensures { ((told result, output.new) ≡ explain_outcome jobs.now low high configuration.now output.old) × (result.last ≤ result.length) × (result.length ≤ length output.new) }
+) -> Result<Told, Refusal>
+    ensures { ((told result, output.new) ≡ explain_outcome jobs.now low high configuration.now output.old) × IfOk result (λ t. (t.last ≤ t.length) × (t.length ≤ length output.new)) }
 {
-    let call = records::call::read_call(jobs, low, high);
-    let answer = call.answer;
-    let Counted::Count(n) = answer else {
-        return answer::turned(records::refusal::refusal_of(answer));
-    };
-    let table = call.table;
-    let range = call.range;
-    let read = configuration::block::read_settings(table, n, range, configuration);
-    let judged = read.answer;
-    if let Counted::Refused(refusal) = judged {
-        return answer::turned(refusal);
-    }
-    let settings = read.settings;
-    let bounds = marker::table::bounds_of(table, settings, n);
-    let each = parts::table::breakdown_of(table, settings, n);
-    put_explanation(output, table, settings, each, bounds, Job::at_most(n))
+    let call = records::call::read_call(jobs, low, high)?;
+    let settings = configuration::block::read_settings(call, configuration)?;
+    let table = call.jobs.table;
+    let n = call.jobs.count;
+    let bounds = marker::table::bounds_of(table, settings.table, n);
+    let each = parts::table::breakdown_of(table, settings.table, n);
+    Ok(put_explanation(
+        &mut *output,
+        table,
+        settings.table,
+        each,
+        bounds,
+        Job::at_most(n),
+    ))
 }

@@ -17,12 +17,12 @@ module _ (jobs : List Job) (bounds : List ℕ) (k : ℕ) where
   abbrev within : List ℕ → List ℕ
   within numbers = filled (106 ∷ 111 ∷ 98 ∷ 32 ∷ 37 ∷ 58 ∷ 32 ∷ 98 ∷ 111 ∷ 117 ∷ 110 ∷ 100 ∷ 32 ∷ 37 ∷ 44 ∷ 32 ∷ 100 ∷ 101 ∷ 97 ∷ 100 ∷ 108 ∷ 105 ∷ 110 ∷ 101 ∷ 32 ∷ 37 ∷ 10 ∷ []) numbers
 
-  pub over-line : get_or bounds k 0 ≡ 0 → over ((job_at jobs k).id ∷ (job_at jobs k).deadline ∷ 0 ∷ 0 ∷ 0 ∷ 0 ∷ 0 ∷ 0 ∷ []) ≡ mark_line jobs bounds k
+  pub over-line : get_or bounds k 0 ≡ 0 → over ((job_at jobs k).id ∷ (job_at jobs k).deadline ∷ []) ≡ mark_line jobs bounds k
   unfolding filled
   over-line e =
       sym (ap (λ (b : Bool). cond b (over ((job_at jobs k).id ∷ (job_at jobs k).deadline ∷ [])) (within ((job_at jobs k).id ∷ get_or bounds k 0 ∷ (job_at jobs k).deadline ∷ []))) (eq-eqb (get_or bounds k 0) 0 e))
 
-  pub bound-line : (get_or bounds k 0 ≡ 0 → ⊥) → within ((job_at jobs k).id ∷ get_or bounds k 0 ∷ (job_at jobs k).deadline ∷ 0 ∷ 0 ∷ 0 ∷ 0 ∷ 0 ∷ []) ≡ mark_line jobs bounds k
+  pub bound-line : (get_or bounds k 0 ≡ 0 → ⊥) → within ((job_at jobs k).id ∷ get_or bounds k 0 ∷ (job_at jobs k).deadline ∷ []) ≡ mark_line jobs bounds k
   unfolding filled
   bound-line e =
       sym (ap (λ (b : Bool). cond b (over ((job_at jobs k).id ∷ (job_at jobs k).deadline ∷ [])) (within ((job_at jobs k).id ∷ get_or bounds k 0 ∷ (job_at jobs k).deadline ∷ []))) (ne_eqb (get_or bounds k 0) 0 e))

@@ -1,9 +1,8 @@
 -- Each sentence and what is said of each fault is its line of the text of all. Assumes nothing.
-use Prim.Native.Nat.{ℕ, zero, suc, ◌≤◌}
-use mathlib.Core.Path.{◌≡◌, refl, sym, ◌∙◌}
+use Prim.Native.Nat.{ℕ, ◌≤◌}
+use mathlib.Core.Path.{◌≡◌, refl}
 use mathlib.Core.List.{List, [], ◌∷◌, ◌++◌}
-use native.Mathlib.Omega.{arith}
-use lib.ListN.{length, get_or, get_or-eq_default}
+use lib.ListN.{length}
 use borrow.Author.Tests.{leb-true}
 use Rattle.records.specs.Records.{flat}
 use Rattle.lists.specs.Decimals.{line_feed}
@@ -81,21 +80,3 @@ sentence-told AlonePriority = (refl, leb-true _ _ refl)
 sentence-told GateJobs = (refl, leb-true _ _ refl)
 sentence-told GateQuantum = (refl, leb-true _ _ refl)
 sentence-told Unknown = (refl, leb-true _ _ refl)
-
--- Four numbers, and zeros after them.
-pub four-numbers : (numbers : List ℕ) → length numbers ≡ 4 → (i : ℕ) → get_or (get_or numbers 0 0 ∷ get_or numbers 1 0 ∷ get_or numbers 2 0 ∷ get_or numbers 3 0 ∷ 0 ∷ 0 ∷ 0 ∷ 0 ∷ []) i 0 ≡ get_or numbers i 0
-four-numbers numbers long zero = refl
-four-numbers numbers long (suc zero) = refl
-four-numbers numbers long (suc (suc zero)) = refl
-four-numbers numbers long (suc (suc (suc zero))) = refl
-four-numbers numbers long (suc (suc (suc (suc i)))) = none i ∙ sym (get_or-eq_default numbers 0 (omega (arith, long)))
-  where
-    zeros : List ℕ
-    zeros = 0 ∷ 0 ∷ 0 ∷ 0 ∷ []
-
-    none : (k : ℕ) → get_or zeros k 0 ≡ 0
-    none zero = refl
-    none (suc zero) = refl
-    none (suc (suc zero)) = refl
-    none (suc (suc (suc zero))) = refl
-    none (suc (suc (suc (suc k)))) = refl

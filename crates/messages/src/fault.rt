@@ -29,22 +29,14 @@ fn fault_line(fault: Fault) -> usize
     }
 }
 
-// The numbers that are said of a fault.
-fn fault_numbers(fault: Fault) -> [u32; writing::MOST]
-    ensures { result ≡ table 8 0 (fault_numbers fault) }
+// The numbers that are said of a fault, and zeros after them.
+fn fault_numbers(fault: Fault) -> [u32; 2]
+    ensures { result ≡ table 2 0 (fault_numbers fault) }
 {
     match fault {
-        Fault::NotANumber(place) => [u32::from(place), 0, 0, 0, 0, 0, 0, 0],
-        Fault::TooLarge(place, limit) => [u32::from(place), u32::from(limit), 0, 0, 0, 0, 0, 0],
-        Fault::NotAPolicy
-        | Fault::NotAPolicyName
-        | Fault::LoneReturn
-        | Fault::JobWords
-        | Fault::SettingWords
-        | Fault::KernelWords
-        | Fault::RangeWords
-        | Fault::TooMany
-        | Fault::SecondRange => [0; writing::MOST],
+        Fault::NotANumber(place) => [u32::from(place), 0],
+        Fault::TooLarge(place, limit) => [u32::from(place), u32::from(limit)],
+        _ => [0; 2],
     }
 }
 
@@ -69,7 +61,7 @@ more than 8 jobs
 a second line with quanta
 ",
         fault_line(fault),
-        fault_numbers(fault),
+        &fault_numbers(fault),
     )
 }
 
@@ -77,7 +69,7 @@ a second line with quanta
 pub fn put_fault(line: u32, fault: Fault, output: &mut [u8; SIZE]) -> usize
     ensures { (result ≤ length output.new) × (result ≡ length (fault_text line fault)) × (output.new ≡ sets output.old 0 (fault_text line fault)) }
 {
-    let after_line = writing::put_template(output, 0, b"line %: ", [line, 0, 0, 0, 0, 0, 0, 0]);
+    let after_line = writing::put_template(output, 0, b"line %: ", &[line]);
     let after_message = put_message(output, after_line, fault);
-    writing::put_template(output, after_message, b"\n", [0u32; writing::MOST])
+    writing::put_template(output, after_message, b"\n", &[])
 }

@@ -103,7 +103,7 @@ the list has % jobs, and the start gate takes at most %
 the highest quantum is %, and the start gate takes at most %
 ",
         sentence_line(sentence),
-        [numbers[0], numbers[1], numbers[2], numbers[3], 0, 0, 0, 0],
+        &numbers,
     )
 }
 
@@ -118,17 +118,8 @@ fn put_place(
     ensures { Wrote 100 output.old output.new at result (place_text naming lines place) }
 {
     match naming {
-        Naming::Line => {
-            writing::put_template(output, at, b"line %: ", [lines[place], 0, 0, 0, 0, 0, 0, 0])
-        }
-        Naming::Record => {
-            writing::put_template(
-                output,
-                at,
-                b"record %: ",
-                [place as u32 + 1, 0, 0, 0, 0, 0, 0, 0],
-            )
-        }
+        Naming::Line => { writing::put_template(output, at, b"line %: ", &[lines[place]]) }
+        Naming::Record => { writing::put_template(output, at, b"record %: ", &[place as u32 + 1]) }
     }
 }
 
@@ -158,15 +149,10 @@ pub fn put_refusal(
 ) -> usize
     ensures { (result ≤ length output.new) × (result ≡ length (refusal_text number naming lines reason)) × (output.new ≡ sets output.old 0 (refusal_text number naming lines reason)) }
 {
-    let after_number = writing::put_template(
-        output,
-        0,
-        b"refused %: ",
-        [number as u32, 0, 0, 0, 0, 0, 0, 0],
-    );
+    let after_number = writing::put_template(output, 0, b"refused %: ", &[number as u32]);
     let after_record = put_record(output, after_number, naming, lines, reason.at);
     let sentence = reason.sentence;
     let numbers = reason.numbers;
     let after_sentence = put_sentence(output, after_record, sentence, numbers);
-    writing::put_template(output, after_sentence, b"\n", [0u32; writing::MOST])
+    writing::put_template(output, after_sentence, b"\n", &[])
 }

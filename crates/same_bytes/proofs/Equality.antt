@@ -1,13 +1,15 @@
 -- When two blocks are the same bytes, and that they are exactly if they are equal. Assumes nothing.
 use Prim.Native.Nat.{ℕ, ◌<◌}
-use mathlib.Core.Path.{◌≡◌, refl, ap, ◌∙◌}
+use mathlib.Core.Path.{◌≡◌, refl, sym, ap, ap₂, ◌∙◌}
 use mathlib.Core.Bool.{Bool, true, false, ◌&&◌, and-eq-true_iff, and-false}
-use mathlib.Core.List.{List}
+use mathlib.Core.List.{List, ◌++◌}
 use mathlib.Core.Logic.{◌↔◌}
 use lib.Dec.{eqb}
-use lib.ListN.{length, get_or}
-use lib.Seq.{ext_get_or}
+use lib.ListN.{length, get_or, take, drop}
+use lib.Seq.{ext_get_or, take-append_seam, drop-append_seam}
 use borrow.Author.Tests.{eq-eqb, ne_eqb, eqb-true}
+use Rattle.std.proofs.lemmas.Bool.{false≢true}
+use Rattle.std.specs.Bool.{Decides, one_answer}
 use Rattle.sets.specs.Places.{every}
 use Rattle.sets.proofs.Places.{every_of, every-at, every-stop}
 use Rattle.same_bytes.specs.Same.{same_at, same_bytes}
@@ -40,3 +42,23 @@ not_same a b h = go (same_bytes a b) refl
     go : (t : Bool) → same_bytes a b ≡ t → t ≡ false
     go false e = refl
     go true e = absurd (h ((same-exactly a b).0 e))
+
+-- What decides equality of the blocks is the test.
+pub decided : (a b : List ℕ) (answer : Bool) → Decides answer (a ≡ b) → answer ≡ same_bytes a b
+decided a b answer h = one_answer answer (same_bytes a b) h (same-exactly a b)
+
+-- ---- blocks in two parts
+
+apart : (x y xs ys : List ℕ) → length x ≡ length y → x ++ xs ≡ y ++ ys → (x ≡ y) × (xs ≡ ys)
+apart x y xs ys long e = (
+  sym (take-append_seam x xs) ∙ ap₂ take long e ∙ take-append_seam y ys,
+  sym (drop-append_seam x xs) ∙ ap₂ drop long e ∙ drop-append_seam y ys,
+)
+
+pub same-split : (x y xs ys : List ℕ) → length x ≡ length y → same_bytes (x ++ xs) (y ++ ys) ≡ same_bytes x y && same_bytes xs ys
+same-split x y xs ys long = go (same_bytes x y) refl (same_bytes xs ys) refl
+  where
+    go : (s : Bool) → same_bytes x y ≡ s → (t : Bool) → same_bytes xs ys ≡ t → same_bytes (x ++ xs) (y ++ ys) ≡ s && t
+    go true e true f = (same-exactly (x ++ xs) (y ++ ys)).1 (ap₂ ◌++◌ ((same-exactly x y).0 e) ((same-exactly xs ys).0 f))
+    go true e false f = not_same _ _ (λ p. false≢true (sym f ∙ (same-exactly xs ys).1 (apart x y xs ys long p).1))
+    go false e t f = not_same _ _ (λ p. false≢true (sym e ∙ (same-exactly x y).1 (apart x y xs ys long p).0))

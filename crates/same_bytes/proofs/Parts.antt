@@ -2,14 +2,15 @@
 use Prim.Native.Nat.{ℕ, suc, ◌+◌, ◌-◌, ◌%◌, ◌≤◌, ◌<◌}
 use mathlib.Core.Path.{◌≡◌, sym, ap, ap₂, ◌∙◌}
 use mathlib.Core.Bool.{Bool, true, false, ◌&&◌, and-false}
-use mathlib.Core.List.{List}
-use native.Mathlib.Nat.{zero-add, dvd-sub, dvd_of_mod-eq-zero, le_of_dvd}
+use mathlib.Core.List.{List, [], ◌++◌}
+use native.Mathlib.Nat.{zero-add, dvd-sub, dvd_of_mod-eq-zero, mod-eq-zero_of_dvd, add-mod_left, mod-eq_of_lt}
 use native.Mathlib.Decide.{dec_le}
 use native.Mathlib.Omega.{arith}
 use lib.Dec.{eqb}
-use lib.ListN.{length, get_or, take, drop, length-take, length-drop, get_or-eq_default}
+use lib.ListN.{length, get_or, take, drop, length-take, length-drop, length-append, get_or-eq_default}
 use lib.Seq.{get_or-take, get_or-drop}
 use borrow.Author.Tests.{eq-eqb}
+use Rattle.std.proofs.lemmas.List.{nil_from_length}
 use Rattle.sets.specs.Places.{every}
 use Rattle.sets.proofs.Places.{every-same, every-split}
 use Rattle.records.specs.Records.{AllBytes}
@@ -35,12 +36,19 @@ part_bytes from end s h i = elim (dec_le (suc i) (end - from)) [
       rw (get_or-eq_default (part from end s) 0 past) (omega arith)
 ]
 
--- Before the end stands a whole part.
-pub whole-next : (size i end : ℕ) → i % size ≡ 0 → end % size ≡ 0 → i < end → i + size ≤ end
-whole-next size i end ei ee l =
-    let left : 0 < end - i = omega arith in
-    let h : size ≤ end - i = le_of_dvd left (dvd-sub size (dvd_of_mod-eq-zero size ee) (dvd_of_mod-eq-zero size ei)) in
-    omega arith
+-- Between places of whole parts there are whole parts.
+pub whole-parts : (size from end : ℕ) → from ≤ end → from % size ≡ 0 → end % size ≡ 0 → (end - from) % size ≡ 0
+whole-parts size from end h ef ee = mod-eq-zero_of_dvd size (dvd-sub size (dvd_of_mod-eq-zero size ee) (dvd_of_mod-eq-zero size ef))
+
+-- What is left of whole parts: after one there are whole ones, and where there is none there is nothing.
+module _ (size : ℕ) (xs : List ℕ) where
+  pub parts-next : (x rest : List ℕ) → rest ≡ x ++ xs → length x ≡ size → length rest % size ≡ 0 → length xs % size ≡ 0
+  parts-next x rest e long whole =
+      let sum : length rest ≡ size + length xs = ap length e ∙ length-append x xs ∙ ap (λ (n : ℕ). n + length xs) long in
+      sym (add-mod_left size (length xs)) ∙ sym (ap (λ (n : ℕ). n % size) sum) ∙ whole
+
+  pub no-parts : length xs < size → length xs % size ≡ 0 → xs ≡ []
+  no-parts less whole = nil_from_length xs (sym (mod-eq_of_lt less) ∙ whole)
 
 module _ (a b : List ℕ) where
   -- No place stands between a place and itself.

@@ -32,11 +32,8 @@ fn same_records(a: &[u8], b: &[u8]) -> bool
     ensures { result ≡ same_bytes a.now b.now }
 {
     let mut differences: u32 = 0;
-    let mut i = 0;
-    while i < a.len() {
-        let end = i + RECORD_SIZE;
-        differences = differences | (number_of(&a[i..end]) ^ number_of(&b[i..end]));
-        i = end;
+    for (x, y) in a.chunks_exact(RECORD_SIZE).zip(b.chunks_exact(RECORD_SIZE)) {
+        differences |= number_of(x) ^ number_of(y);
     }
     differences == 0
 }
@@ -47,13 +44,13 @@ fn same_parts(a: &[u8], b: &[u8], from: usize, end: usize, size: usize) -> bool
     requires { PartSize size × InParts size from end a.now b.now }
     ensures { result ≡ same_between a.now b.now from end }
 {
-    let mut i = from;
-    while i < end {
-        let next = i + size;
-        if !same_records(&a[i..next], &b[i..next]) {
+    for (x, y) in a[from..end]
+        .chunks_exact(size)
+        .zip(b[from..end].chunks_exact(size))
+    {
+        if !same_records(x, y) {
             return false;
         }
-        i = next;
     }
     true
 }
@@ -62,17 +59,7 @@ fn same_parts(a: &[u8], b: &[u8], from: usize, end: usize, size: usize) -> bool
 pub fn same_singly(a: &[u8], b: &[u8]) -> bool
     ensures { result ≡ same_bytes a.now b.now }
 {
-    if a.len() != b.len() {
-        return false;
-    }
-    let mut i = 0;
-    while i < a.len() {
-        if a[i] != b[i] {
-            return false;
-        }
-        i += 1;
-    }
-    true
+    a.len() == b.len() && a.iter().zip(b).all(|(x, y)| x == y)
 }
 
 // Whether two blocks are the same bytes: long parts first, then short ones, then records, then bytes.

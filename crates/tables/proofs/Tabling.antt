@@ -21,19 +21,19 @@ end-apart word [] = refl
 end-apart word (next ∷ rest) = refl
 
 -- The line of a job is its four numbers and the end with its delay.
-pub job-line : (job : Job) → filled (37 ∷ 32 ∷ 37 ∷ 32 ∷ 37 ∷ 32 ∷ 37 ∷ []) (job.id ∷ job.cost ∷ job.period ∷ job.deadline ∷ 0 ∷ 0 ∷ 0 ∷ 0 ∷ []) ++ line_text [] (delay_words job.delay) ≡ job_text job
+pub job-line : (job : Job) → filled (37 ∷ 32 ∷ 37 ∷ 32 ∷ 37 ∷ 32 ∷ 37 ∷ []) (job.id ∷ job.cost ∷ job.period ∷ job.deadline ∷ []) ++ line_text [] (delay_words job.delay) ≡ job_text job
 unfolding filled
 job-line job =
     simp append_assoc
     (ap (λ (end : List ℕ). decimal job.id ++ (space ∷ (decimal job.cost ++ (space ∷ (decimal job.period ++ (space ∷ end)))))) (end-apart (decimal job.deadline) (delay_words job.delay)))
 
 -- The line of a setting, and of a kernel record, is what stands before its policy, the policy's word and what stands after it.
-pub setting-line : (setting : Setting) → filled (37 ∷ 32 ∷ 37 ∷ 32 ∷ []) (setting.id ∷ setting.level ∷ 0 ∷ 0 ∷ 0 ∷ 0 ∷ 0 ∷ 0 ∷ []) ++ (policy_word setting.policy ++ filled (32 ∷ 37 ∷ 10 ∷ []) (setting.quantum ∷ 0 ∷ 0 ∷ 0 ∷ 0 ∷ 0 ∷ 0 ∷ 0 ∷ []))
+pub setting-line : (setting : Setting) → filled (37 ∷ 32 ∷ 37 ∷ 32 ∷ []) (setting.id ∷ setting.level ∷ []) ++ (policy_word setting.policy ++ filled (32 ∷ 37 ∷ 10 ∷ []) (setting.quantum ∷ []))
     ≡ setting_text setting
 unfolding filled
 setting-line setting = simp append_assoc
 
-pub kernel-line : (kernel : KernelRecord) → filled (37 ∷ 32 ∷ []) (kernel.id ∷ 0 ∷ 0 ∷ 0 ∷ 0 ∷ 0 ∷ 0 ∷ 0 ∷ []) ++ (policy_word kernel.policy ++ filled (32 ∷ 37 ∷ 32 ∷ 37 ∷ 10 ∷ []) (kernel.priority.0 ∷ kernel.quantum ∷ 0 ∷ 0 ∷ 0 ∷ 0 ∷ 0 ∷ 0 ∷ []))
+pub kernel-line : (kernel : KernelRecord) → filled (37 ∷ 32 ∷ []) (kernel.id ∷ []) ++ (policy_word kernel.policy ++ filled (32 ∷ 37 ∷ 32 ∷ 37 ∷ 10 ∷ []) (kernel.priority.0 ∷ kernel.quantum ∷ []))
     ≡ kernel_text kernel
 unfolding filled
 kernel-line kernel = simp append_assoc

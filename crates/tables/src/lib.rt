@@ -1,10 +1,9 @@
 // Job lists, configurations and kernel records as text: a line per job or per record, as `lists` reads it back.
 #![tactic(auto)]
 
-ghost use Rattle.std.specs.Prelude.{◌≡◌, [], ◌+◌, ◌≤◌, length, take};
+ghost use Rattle.std.specs.Prelude.{◌≡◌, ℕ, List, [], ◌+◌, ◌*◌, ◌≤◌, length, take};
 ghost use Rattle.std.proofs.Math.Option.{none};
 ghost use Rattle.std.proofs.lemmas.List.Edits.{sets};
-ghost use Rattle.records.specs.Limits.{most_jobs};
 ghost use Rattle.records.specs.Records.{flat};
 ghost use Rattle.lists.specs.Lists.{line_text, delay_words, job_text, policy_word, setting_text, kernel_text, list_text, configuration_text, kernels_text};
 ghost use Rattle.writing.specs.Templates.{Wrote};
@@ -28,40 +27,41 @@ fn put_delay(output: &mut [u8], at: usize, delay: u8) -> usize
     ensures { Wrote 30 output.old output.new at result (line_text [] (delay_words delay)) }
 {
     if delay == 0 {
-        return writing::put_template(output, at, b"\n", [0u32; writing::MOST]);
+        return writing::put_template(output, at, b"\n", &[]);
     }
-    writing::put_template(output, at, b" %\n", [delay as u32, 0, 0, 0, 0, 0, 0, 0])
+    writing::put_template(output, at, b" %\n", &[delay as u32])
 }
 
-// The line of a job.
-fn put_job(output: &mut [u8], at: usize, job: Job) -> usize
-    requires { at + 100 ≤ length output.old }
-    ensures { Wrote 100 output.old output.new at result (job_text job) }
-{
-    let cost = job.cost as u32;
-    let period = job.period as u32;
-    let deadline = job.deadline as u32;
-    let after_deadline = writing::put_template(
-        output,
-        at,
-        b"% % % %",
-        [job.id as u32, cost, period, deadline, 0, 0, 0, 0],
-    );
-    put_delay(output, after_deadline, job.delay)
+// A record that is written as a line.
+trait Line: Copy {
+    // The record's line, and the most bytes that a line has.
+    ghost text: { Self → List ℕ };
+
+    ghost room: { ℕ };
+
+    fn put_line(self, output: &mut [u8], at: usize) -> usize
+        requires { at + room ≤ length output.old }
+        ensures { Wrote room output.old output.new at result (text self) };
 }
 
-// The lines of n jobs, from the start of the output on.
-fn put_jobs(output: &mut [u8], jobs: [Job; Job::MOST], n: usize) -> usize
-    requires { (n ≤ most_jobs) × (800 ≤ length output.old) }
-    ensures { Wrote 800 output.old output.new 0 result (flat job_text (take n jobs)) }
-{
-    let mut at = 0;
-    let mut k = 0;
-    while k < n {
-        at = put_job(output, at, jobs[k]);
-        k += 1;
+impl Line for Job {
+    ghost text = { job_text };
+
+    ghost room = { 100 };
+
+    fn put_line(self, output: &mut [u8], at: usize) -> usize {
+        let id = self.id as u32;
+        let cost = self.cost as u32;
+        let period = self.period as u32;
+        let deadline = self.deadline as u32;
+        let after_deadline = writing::put_template(
+            output,
+            at,
+            b"% % % %",
+            &[id, cost, period, deadline],
+        );
+        put_delay(output, after_deadline, self.delay)
     }
-    at
 }
 
 // A policy's name; the number of one that has none.
@@ -70,85 +70,58 @@ fn put_policy(output: &mut [u8], at: usize, policy: u8) -> usize
     ensures { Wrote 40 output.old output.new at result (policy_word policy) }
 {
     if policy == Setting::NOT_PLACED {
-        return writing::put_template(output, at, b"none", [0u32; writing::MOST]);
+        return writing::put_template(output, at, b"none", &[]);
     }
     if policy == Setting::FIFO {
-        return writing::put_template(output, at, b"fifo", [0u32; writing::MOST]);
+        return writing::put_template(output, at, b"fifo", &[]);
     }
     if policy == Setting::ROUND_ROBIN {
-        return writing::put_template(output, at, b"rr", [0u32; writing::MOST]);
+        return writing::put_template(output, at, b"rr", &[]);
     }
-    writing::put_template(output, at, b"%", [policy as u32, 0, 0, 0, 0, 0, 0, 0])
+    writing::put_template(output, at, b"%", &[policy as u32])
 }
 
-// The line of a setting.
-fn put_setting(output: &mut [u8], at: usize, setting: Setting) -> usize
-    requires { at + 110 ≤ length output.old }
-    ensures { Wrote 110 output.old output.new at result (setting_text setting) }
-{
-    let level = setting.level as u32;
-    let quantum = setting.quantum as u32;
-    let after_level = writing::put_template(
-        output,
-        at,
-        b"% % ",
-        [setting.id as u32, level, 0, 0, 0, 0, 0, 0],
-    );
-    let after_policy = put_policy(output, after_level, setting.policy);
-    writing::put_template(
-        output,
-        after_policy,
-        b" %\n",
-        [quantum, 0, 0, 0, 0, 0, 0, 0],
-    )
+impl Line for Setting {
+    ghost text = { setting_text };
+
+    ghost room = { 110 };
+
+    fn put_line(self, output: &mut [u8], at: usize) -> usize {
+        let level = self.level as u32;
+        let quantum = self.quantum as u32;
+        let after_level = writing::put_template(output, at, b"% % ", &[self.id as u32, level]);
+        let after_policy = put_policy(output, after_level, self.policy);
+        writing::put_template(output, after_policy, b" %\n", &[quantum])
+    }
 }
 
-// The lines of n settings, from the start of the output on.
-fn put_settings(output: &mut [u8], settings: [Setting; Job::MOST], n: usize) -> usize
-    requires { (n ≤ most_jobs) × (880 ≤ length output.old) }
-    ensures { Wrote 880 output.old output.new 0 result (flat setting_text (take n settings)) }
+impl Line for KernelRecord {
+    ghost text = { kernel_text };
+
+    ghost room = { 110 };
+
+    fn put_line(self, output: &mut [u8], at: usize) -> usize {
+        let priority = self.priority;
+        let quantum = self.quantum as u32;
+        let after_id = writing::put_template(output, at, b"% ", &[self.id as u32]);
+        let after_policy = put_policy(output, after_id, self.policy);
+        writing::put_template(
+            output,
+            after_policy,
+            b" % %\n",
+            &[priority.0 as u32, quantum],
+        )
+    }
+}
+
+// The lines of records, from the start of the output on.
+fn put_lines<L: Line>(records: &[L], output: &mut [u8]) -> usize
+    requires { L.room * length records.now ≤ length output.old }
+    ensures { Wrote (L.room * length records.now) output.old output.new 0 result (flat L.text records.now) }
 {
     let mut at = 0;
-    let mut k = 0;
-    while k < n {
-        at = put_setting(output, at, settings[k]);
-        k += 1;
-    }
-    at
-}
-
-// The line of a kernel record.
-fn put_kernel(output: &mut [u8], at: usize, kernel: KernelRecord) -> usize
-    requires { at + 110 ≤ length output.old }
-    ensures { Wrote 110 output.old output.new at result (kernel_text kernel) }
-{
-    let priority = kernel.priority;
-    let quantum = kernel.quantum as u32;
-    let after_id = writing::put_template(
-        output,
-        at,
-        b"% ",
-        [kernel.id as u32, 0, 0, 0, 0, 0, 0, 0],
-    );
-    let after_policy = put_policy(output, after_id, kernel.policy);
-    writing::put_template(
-        output,
-        after_policy,
-        b" % %\n",
-        [priority.0 as u32, quantum, 0, 0, 0, 0, 0, 0],
-    )
-}
-
-// The lines of n kernel records, from the start of the output on.
-fn put_kernels(output: &mut [u8], kernels: [KernelRecord; Job::MOST], n: usize) -> usize
-    requires { (n ≤ most_jobs) × (880 ≤ length output.old) }
-    ensures { Wrote 880 output.old output.new 0 result (flat kernel_text (take n kernels)) }
-{
-    let mut at = 0;
-    let mut k = 0;
-    while k < n {
-        at = put_kernel(output, at, kernels[k]);
-        k += 1;
+    for record in records {
+        at = record.put_line(output, at);
     }
     at
 }
@@ -158,7 +131,7 @@ fn put_kernels(output: &mut [u8], kernels: [KernelRecord; Job::MOST], n: usize) 
 pub fn put_list(jobs: [Job; Job::MOST], n: usize, output: &mut [u8; LIST_SIZE]) -> usize
     ensures { (result ≤ length output.new) × (result ≡ length (list_text none (take n jobs))) × (output.new ≡ sets output.old 0 (list_text none (take n jobs))) }
 {
-    put_jobs(output, jobs, Job::at_most(n))
+    put_lines(&jobs[..Job::at_most(n)], output)
 }
 
 // The text of the first n settings, at the start of the output; it gives the text's length. No entry; it judges nothing, and for n past
@@ -170,7 +143,7 @@ pub fn put_configuration(
 ) -> usize
     ensures { (result ≤ length output.new) × (result ≡ length (configuration_text (take n settings))) × (output.new ≡ sets output.old 0 (configuration_text (take n settings))) }
 {
-    put_settings(output, settings, Job::at_most(n))
+    put_lines(&settings[..Job::at_most(n)], output)
 }
 
 // The text of the first n kernel records, at the start of the output; it gives the text's length. No entry; it judges nothing, and for n
@@ -182,5 +155,5 @@ pub fn put_kernel_table(
 ) -> usize
     ensures { (result ≤ length output.new) × (result ≡ length (kernels_text (take n kernels))) × (output.new ≡ sets output.old 0 (kernels_text (take n kernels))) }
 {
-    put_kernels(output, kernels, Job::at_most(n))
+    put_lines(&kernels[..Job::at_most(n)], output)
 }

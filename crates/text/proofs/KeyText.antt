@@ -12,16 +12,15 @@ use Rattle.sets.specs.Sets.{has, size}
 use Rattle.sets.proofs.Places.{count_same}
 use Rattle.sets.proofs.Parts.{size-count}
 use Rattle.records.specs.Limits.{most_jobs}
-use Rattle.records.specs.Refusals.{Answer, refused, given, number, handed, Accepts}
+use Rattle.records.specs.Refusals.{Answer, refused, given, number, Accepts}
 use Rattle.records.specs.Jobs.{block_tests, job_count, job_list}
 use Rattle.records.specs.Ranges.{range_tests}
 use Rattle.records.specs.Calls.{asked, call_tests, question_tests, question, read_call}
 use Rattle.records.specs.declared.job.Job.{Job}
 use Rattle.records.specs.declared.range.Range.{Range}
+use Rattle.std.specs.Prelude.{Result, Ok, Err}
 use Rattle.records.specs.declared.call.Call.{Call}
 use Rattle.records.specs.declared.refusal.Refusal.{Refusal}
-use Rattle.records.specs.declared.refusal.Counted.{Counted}
-use Rattle.records.specs.declared.refusal.Counted.TheVariants.{Count, Refused}
 use Rattle.records.proofs.Outcomes.{accepts, accepts-both, refuses-alike, handed-on}
 use Rattle.records.proofs.Reading.{jobs-listed}
 use Rattle.records.proofs.Asking.{Knows, call-knows, knows-question}
@@ -63,56 +62,56 @@ made jobs low high p guaranteed less n counted r is =
 
 -- ---- what the answers say of the text
 
-module _ (jobs : List ℕ) (low high : ℕ) (call : Call) (asks : asked call ≡ read_call jobs low high) where
+module _ (jobs : List ℕ) (low high : ℕ) (asking : Result Call Refusal) (asks : asked asking ≡ read_call jobs low high) where
   -- A call that is refused: the key is its line.
-  pub key-refused : (refusal : Refusal) → call.answer ≡ Refused refusal → refused_text (number refusal) ≡ key_of jobs low high
+  pub key-refused : (refusal : Refusal) → asking ≡ Err refusal → refused_text (number refusal) ≡ key_of jobs low high
   unfolding key_of
   key-refused refusal e =
-      let told = sym asks ∙ ap (λ (x : Counted). handed x (λ n. (n, (take n call.table, call.range)))) e in
+      let told = sym asks ∙ ap asked e in
       sym (ap (λ (x : Answer (Unit {0}) × Unit {0}). key_or x.0 (key_text (length (job_list jobs)) (plan (job_list jobs) low high)))
       (refuses-alike (call_tests jobs low high) (question jobs low high) tt tt tt tt tt (number refusal) told))
 
-  pub answer-refused : (refusal : Refusal) → call.answer ≡ Refused refusal → refused (number refusal) ≡ key_answer jobs low high
+  pub answer-refused : (refusal : Refusal) → asking ≡ Err refusal → refused (number refusal) ≡ key_answer jobs low high
   unfolding key_answer
   answer-refused refusal e =
-      let told = sym asks ∙ ap (λ (x : Counted). handed x (λ n. (n, (take n call.table, call.range)))) e in
+      let told = sym asks ∙ ap asked e in
       sym (ap (λ (x : Answer Bool × Unit {0}). x.0) (refuses-alike (call_tests jobs low high) (question jobs low high) tt tt _ tt tt (number refusal) told))
 
   -- A call that is accepted: its jobs are planned, and the key is made of the plan's tables.
-  module _ (n : ℕ) (count : call.answer ≡ Count n) (r : TablePlan) (promised : TablePromise call.table n call.range (planned r)) where
-    known : Knows jobs low high call n
-    known = (call-knows jobs low high [] call asks n count).1
+  module _ (call : Call) (given-call : asking ≡ Ok call) (planning : Result TablePlan Refusal) (promised : TablePromise call.jobs.table call.jobs.count call.range (planned call.jobs.count planning)) where
+    abbrev n : ℕ
+    n = call.jobs.count
 
-    ok : Accepts (question_tests n call.table call.range)
-    ok = knows-question jobs low high call n known
+    known : Knows jobs low high call
+    known = (call-knows jobs low high [] asking asks call given-call).1
+
+    ok : Accepts (question_tests n call.jobs.table call.range)
+    ok = knows-question jobs low high call known
 
     abbrev list : List Job
-    list = take n call.table
+    list = take n call.jobs.table
 
     abbrev own : Plan
     own = plan list call.range.low call.range.high
 
-    told : planned r ≡ given (n, own)
-    told = promised.is ∙ ap (λ (x : Answer (ℕ × Plan) × Unit {0}). x.0) (accepts (n, own) tt tt (question_tests n call.table call.range) ok)
+    told : planned n planning ≡ given (n, own)
+    told = promised.is ∙ ap (λ (x : Answer (ℕ × Plan) × Unit {0}). x.0) (accepts (n, own) tt tt (question_tests n call.jobs.table call.range) ok)
 
-    pub key-planned : (refusal : Refusal) → r.answer ≡ Refused refusal → ⊥
+    pub key-planned : (refusal : Refusal) → planning ≡ Err refusal → ⊥
     key-planned refusal e =
-        let z : ◌≡◌ {A = Answer (ℕ × Plan)} (refused (number refusal)) (given (n, own)) = sym (ap (λ (x : Counted). handed x (λ m. (m, plan_in m r))) e) ∙ told in
+        let z : ◌≡◌ {A = Answer (ℕ × Plan)} (refused (number refusal)) (given (n, own)) = sym (ap (planned n) e) ∙ told in
         let y : ◌≡◌ {A = ℕ} 0 1 = cc in
         omega arith
 
-    module _ (m : ℕ) (taken : r.answer ≡ Count m) where
-      is : ◌≡◌ {A = ℕ × Plan} (m, plan_in m r) (n, own)
-      is = (handed-on (question_tests n call.table call.range) (n, own) tt tt r.answer (λ k. (k, plan_in k r)) promised.is m taken).1
+    module _ (r : TablePlan) (made-plan : planning ≡ Ok r) where
+      is : ◌≡◌ {A = ℕ × Plan} (n, plan_in n r) (n, own)
+      is = (handed-on (question_tests n call.jobs.table call.range) (n, own) tt tt planning (λ p. (n, plan_in n p)) promised.is r made-plan).1
 
-      all : m ≡ n
-      all = ap (λ (x : ℕ × Plan). x.0) is
+      pub key-few : n ≤ most_jobs
+      key-few = known.few
 
-      pub key-few : m ≤ most_jobs
-      key-few = omega (arith, all, known.few)
-
-      sized : length list ≡ m
-      sized = ap length known.list ∙ jobs-listed jobs ∙ sym known.count ∙ sym all
+      sized : length list ≡ n
+      sized = ap length known.list ∙ jobs-listed jobs ∙ sym known.count
 
       less : own.placed < 2 ^ length list
       less = placed_less list (omega (arith, sized, key-few)) call.range.low call.range.high
@@ -120,19 +119,19 @@ module _ (jobs : List ℕ) (low high : ℕ) (call : Call) (asks : asked call ≡
       called : Accepts (call_tests jobs low high)
       called = accepts-both (block_tests jobs) (range_tests low high) known.block known.allowed
 
-      pub answer-given : given (eqb (size r.placed) m) ≡ key_answer jobs low high
+      pub answer-given : given (eqb (size r.placed) n) ≡ key_answer jobs low high
       unfolding key_answer
       answer-given =
           let taken : r.placed ≡ own.placed = ap (λ (x : ℕ × Plan). x.1.placed) is in
-          ap (λ (k : ℕ). given (eqb k m)) (ap size taken ∙ placed-count list call.range.low call.range.high own (promised.guarantee own told) less)
+          ap (λ (k : ℕ). given (eqb k n)) (ap size taken ∙ placed-count list call.range.low call.range.high own (promised.guarantee own told) less)
           ∙ ap (λ (k : ℕ). given (eqb (placed_of (length list) own.settings) k)) (sym sized)
           ∙ ap₂ (λ (l : List Job) (x : Range). given (eqb (placed_of (length l) (plan l x.low x.high).settings) (length l))) known.list known.range
           ∙ sym (ap (λ (x : Answer Bool × Unit {0}). x.0) (accepts _ tt tt (call_tests jobs low high) called))
 
-      pub key-text : table_text r.settings r.bounds (size r.placed) m ≡ key_of jobs low high
+      pub key-text : table_text r.settings r.bounds (size r.placed) n ≡ key_of jobs low high
       unfolding key_of
       key-text =
-          made list call.range.low call.range.high own (promised.guarantee own told) less m sized r (ap (λ (x : ℕ × Plan). x.1) is)
+          made list call.range.low call.range.high own (promised.guarantee own told) less n sized r (ap (λ (x : ℕ × Plan). x.1) is)
           ∙ ap₂ (λ (l : List Job) (x : Range). key_text (length l) (plan l x.low x.high)) known.list known.range
           ∙ sym (ap (λ (x : Answer (Unit {0}) × Unit {0}). key_or x.0 (key_text (length (job_list jobs)) (plan (job_list jobs) low high))) (accepts tt tt tt (call_tests jobs low high) called))
 

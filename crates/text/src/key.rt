@@ -1,32 +1,24 @@
 // The key program's text: a line per job, and how many are placed.
-ghost use Rattle.std.specs.Prelude.{◌≡◌, ◌+◌, ◌≤◌, ◌<◌, min, length, take};
+ghost use Rattle.std.specs.Prelude.{◌≡◌, [], ◌∷◌, ◌+◌, ◌≤◌, min, length, take};
 ghost use Rattle.std.proofs.lemmas.List.Edits.{sets};
 ghost use Rattle.records.specs.Limits.{most_jobs};
 ghost use Rattle.writing.specs.Templates.{rows_to, Wrote};
+ghost use Rattle.records.specs.Refusals.{number};
 ghost use Rattle.text.specs.Answers.{answered};
 ghost use Rattle.text.specs.Keys.{job_line, table_text, refused_text, key_of, key_answer, KeyPromise};
 
-use crate::answer;
-use crate::answer::Answered;
 use configuration::setting::Setting;
 use records::job::Job;
-use records::refusal::Counted;
+use records::refusal::Refusal;
 
 // The size of a buffer that holds every key.
 pub const SIZE: usize = 940;
 
-// The line of the job at place k.
-fn put_job(
-    output: &mut [u8],
-    at: usize,
-    settings: [Setting; Job::MOST],
-    bounds: [u16; Job::MOST],
-    k: usize,
-) -> usize
-    requires { (at + 100 ≤ length output.old) × (k < most_jobs) }
-    ensures { Wrote 100 output.old output.new at result (job_line settings bounds k) }
+// The line of a job with its setting and its bound.
+fn put_job(output: &mut [u8], at: usize, setting: Setting, bound: u16) -> usize
+    requires { at + 100 ≤ length output.old }
+    ensures { Wrote 100 output.old output.new at result (job_line (setting ∷ []) (bound ∷ []) 0) }
 {
-    let setting = settings[k];
     let level = setting.level as u32;
     let policy = setting.policy as u32;
     let quantum = setting.quantum as u32;
@@ -34,16 +26,7 @@ fn put_job(
         output,
         at,
         b"% % % % %\n",
-        [
-            setting.id as u32,
-            level,
-            policy,
-            quantum,
-            bounds[k] as u32,
-            0,
-            0,
-            0,
-        ],
+        &[setting.id as u32, level, policy, quantum, bound as u32],
     )
 }
 
@@ -58,10 +41,8 @@ fn put_jobs(
     ensures { Wrote 800 output.old output.new 0 result (rows_to (job_line settings bounds) n) }
 {
     let mut at = 0;
-    let mut k = 0;
-    while k < n {
-        at = put_job(output, at, settings, bounds, k);
-        k += 1;
+    for (setting, bound) in settings[..n].iter().zip(&bounds) {
+        at = put_job(output, at, *setting, *bound);
     }
     at
 }
@@ -91,12 +72,7 @@ fn put_key(
     ensures { Wrote 940 output.old output.new 0 result (table_text settings bounds placed n) }
 {
     let at = put_jobs(output, settings, bounds, n);
-    writing::put_template(
-        output,
-        at,
-        b"placed % of %\n",
-        [placed, n as u32, 0, 0, 0, 0, 0, 0],
-    )
+    writing::put_template(output, at, b"placed % of %\n", &[placed, n as u32])
 }
 
 // The line of a refused block.
@@ -104,12 +80,7 @@ fn put_refused(output: &mut [u8], number: u8) -> usize
     requires { 100 ≤ length output.old }
     ensures { Wrote 100 output.old output.new 0 result (refused_text number) }
 {
-    writing::put_template(
-        output,
-        0,
-        b"refused %\n",
-        [number as u32, 0, 0, 0, 0, 0, 0, 0],
-    )
+    writing::put_template(output, 0, b"refused %\n", &[number as u32])
 }
 
 // The line of a refused block, at the start of the output; it gives the text's length. No entry.
@@ -122,8 +93,18 @@ pub fn refused(number: u8, output: &mut [u8; SIZE]) -> usize
 // The answer beside a key, and the key's length.
 #[derive(Clone, Copy)]
 pub struct Keyed {
-    pub answer: Answered,
+    pub answer: Result<bool, Refusal>,
     pub length: usize,
+}
+
+// The key of a call that is turned down.
+fn refused_key(output: &mut [u8; SIZE], refusal: Refusal) -> Keyed
+    ensures { (result.answer ≡ Err refusal) × Wrote 100 output.old output.new 0 result.length (refused_text (number refusal)) }
+{
+    Keyed {
+        answer: Err(refusal),
+        length: put_refused(output, refusal.number()),
+    }
 }
 
 // The text for a job block and a range, at the start of the output, and whether each job is placed. It is made of the plan's tables: the
@@ -131,38 +112,20 @@ pub struct Keyed {
 pub fn answer_key(jobs: &[u8], low: u8, high: u8, output: &mut [u8; SIZE]) -> Keyed
     ensures { (result.length ≤ length output.new) × (output.new ≡ sets output.old 0 (key_of jobs.now low high)) × KeyPromise jobs.now low high (take result.length output.new) × (answered result.answer ≡ key_answer jobs.now low high) }
 {
-    let call = records::call::read_call(jobs, low, high);
-    let answer = call.answer;
-    let Counted::Count(n) = answer else {
-        let refusal = records::refusal::refusal_of(answer);
-        let length = put_refused(output, refusal.number());
-        return Keyed {
-            answer: Answered::Refused(refusal),
-            length,
-        };
+    let call = match records::call::read_call(jobs, low, high) {
+        Ok(call) => call,
+        Err(refusal) => return refused_key(output, refusal),
     };
-    let table = call.table;
-    let range = call.range;
-    let plan = planner::table::plan_table(table, n, range);
-    let planned = plan.answer;
-    match planned {
-        Counted::Count(count) => {
-            let settings = plan.settings;
-            let bounds = plan.bounds;
-            let placed = sets::size(plan.placed);
-            let length = put_key(output, settings, bounds, placed, count);
-            Keyed {
-                answer: answer::yes_or_no(placed as usize == count),
-                length,
-            }
-        }
-        Counted::Refused(refusal) => {
-            let length = put_refused(output, refusal.number());
-            Keyed {
-                answer: Answered::Refused(refusal),
-                length,
-            }
-        }
+    let plan = match planner::table::plan_table(call) {
+        Ok(plan) => plan,
+        Err(refusal) => return refused_key(output, refusal),
+    };
+    let n = call.jobs.count;
+    let placed = sets::size(plan.placed);
+    let length = put_key(output, plan.settings, plan.bounds, placed, n);
+    Keyed {
+        answer: Ok(placed as usize == n),
+        length,
     }
 }
 

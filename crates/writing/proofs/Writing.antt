@@ -1,9 +1,9 @@
 -- Laws of text written to a buffer, part after part. Assumes nothing.
-use Prim.Native.Nat.{ℕ, zero, suc, ◌+◌, ◌≤◌, ◌<◌}
+use Prim.Native.Nat.{ℕ, zero, suc, ◌+◌, ◌*◌, ◌≤◌, ◌<◌}
 use mathlib.Core.Path.{◌≡◌, refl, sym, ap, ap₂, subst, ◌∙◌}
 use mathlib.Core.Bool.{Bool, true, false, cond}
 use mathlib.Core.List.{List, [], ◌∷◌, ◌++◌}
-use native.Mathlib.Nat.{add-zero, add-suc, suc-add, add_assoc, zero-add}
+use native.Mathlib.Nat.{add-zero, add-suc, suc-add, add_assoc, zero-add, mul-suc, mul-le-mul_left}
 use native.Mathlib.Numerals.{add-one}
 use native.Mathlib.Omega.{arith}
 use lib.Dec.{eqb}
@@ -60,6 +60,30 @@ rows_next row i = rw (add-one i) refl
 
 pub flat-next : {A : Type 0} (bytes : A → List ℕ) (records : List A) (i : ℕ) (blank : A) → i < length records → flat bytes (take i records) ++ bytes (get_or records i blank) ≡ flat bytes (take (i + 1) records)
 flat-next bytes records i blank h = rw (add-one i, take-suc records i blank h) (sym (flat-snoc bytes (take i records) (get_or records i blank)))
+
+-- Parts of at most `room` bytes each, one after the other: nothing yet, where there is room for all there is room for the next, one part more, and all.
+pub no-part : (room : ℕ) (old : List ℕ) (at : ℕ) → Wrote (room * 0) old old at at []
+no-part room old at = widened (room * 0) (nothing old at) (omega arith)
+
+pub next-fits : (room i : ℕ) {n : ℕ} {old mid : List ℕ} {from at : ℕ} {xs : List ℕ} → Wrote (room * i) old mid from at xs → i < n → from + room * n ≤ length old → at + room ≤ length mid
+next-fits room i {n} {old} {mid} {from} {at} {xs} w l h =
+    let most : room * suc i ≤ room * n = mul-le-mul_left room (omega arith) in
+    omega (arith, w.next, w.short, same_length w, h, most, mul-suc room i)
+
+pub one-more : (room i : ℕ) {old mid new : List ℕ} {from at r : ℕ} {xs ys : List ℕ} → Wrote (room * i) old mid from at xs → Wrote room mid new at r ys → Wrote (room * (i + 1)) old new from r (xs ++ ys)
+one-more room i v w = limited-to (sym (ap (λ (j : ℕ). room * j) (add-one i) ∙ mul-suc room i)) (then v w)
+
+-- Rows of at most `room` bytes each: one row more, by its place or by what a loop has gone through, and all of them.
+pub row-next : (room : ℕ) (row : ℕ → List ℕ) (i : ℕ) {old mid new : List ℕ} {from at r : ℕ} → Wrote (room * i) old mid from at (rows_to row i) → Wrote room mid new at r (row i) → Wrote (room * (i + 1)) old new from r (rows_to row (i + 1))
+row-next room row i v w = retold (one-more room i v w) (rows_next row i)
+
+pub row-more : {X : Type 0} (room : ℕ) (row : ℕ → List ℕ) (seen : List X) (x : X) {old mid new : List ℕ} {from at r : ℕ} {ys : List ℕ} → Wrote (room * length seen) old mid from at (rows_to row (length seen)) → Wrote room mid new at r ys → ys ≡ row (length seen)
+    → Wrote (room * length (seen ++ (x ∷ []))) old new from r (rows_to row (length (seen ++ (x ∷ []))))
+row-more room row seen x {old} {mid} {new} {from} {at} {r} v w e =
+    subst (λ (k : ℕ). Wrote (room * k) old new from r (rows_to row k)) (sym (length-append seen (x ∷ []))) (row-next room row (length seen) v (retold w e))
+
+pub rows-all : (room m : ℕ) (row : ℕ → List ℕ) {k : ℕ} (n : ℕ) {old new : List ℕ} {from r : ℕ} → k ≡ n → Wrote (room * k) old new from r (rows_to row k) → room * n ≤ m → Wrote m old new from r (rows_to row n)
+rows-all room m row {k} n {old} {new} {from} {r} e w h = widened m (subst (λ (j : ℕ). Wrote (room * j) old new from r (rows_to row j)) e w) h
 
 -- Text from the start of a buffer on.
 pub whole : {k : ℕ} {old new : List ℕ} {r : ℕ} {xs : List ℕ} → Wrote k old new 0 r xs → k ≤ length old → (r ≤ length new) × (r ≡ length xs) × (new ≡ sets old 0 xs)

@@ -1,5 +1,5 @@
 // Text in a lent buffer, by templates in which each `%` stands for a number. Each function writes from a place on and gives the place after
-// what it wrote.
+// what it wrote. A struct that held the lent buffer and the place would need a clause in each contract that it still holds the same buffer.
 #![tactic(auto)]
 
 ghost use Rattle.std.specs.Prelude.{◌≡◌, ◌∷◌, [], ◌+◌, ◌*◌, ◌%◌, ◌≤◌, ◌<◌, length, get_or, drop};
@@ -8,9 +8,6 @@ ghost use Rattle.writing.specs.Templates.{piece, used_after, filled, after_lines
 
 use lists::words;
 use lists::words::Mark;
-
-// The most numbers that a template takes.
-pub const MOST: usize = 8;
 
 // The last decimal digit of n.
 fn last_digit(n: u32) -> u8
@@ -48,13 +45,10 @@ fn put_number(buffer: &mut [u8], at: usize, n: u32) -> usize
 }
 
 // Number i; 0 past them.
-fn number_at(numbers: [u32; MOST], i: usize) -> u32
-    ensures { result ≡ get_or numbers i 0 }
+fn number_at(numbers: &[u32], i: usize) -> u32
+    ensures { result ≡ get_or numbers.now i 0 }
 {
-    if i < MOST {
-        return numbers[i];
-    }
-    0
+    numbers.get(i).copied().unwrap_or(0)
 }
 
 // A byte of a template: the number for a `%`, and else the byte.
@@ -79,26 +73,23 @@ fn used_after(byte: u8, used: usize) -> usize
 }
 
 // A text in which each `%` of the template stands for the next of the numbers.
-fn put_filled(buffer: &mut [u8], at: usize, template: &[u8], numbers: [u32; MOST]) -> usize
+fn put_filled(buffer: &mut [u8], at: usize, template: &[u8], numbers: &[u32]) -> usize
     requires { at + 10 * length template.now ≤ length buffer.old }
-    ensures { Wrote (10 * length template.now) buffer.old buffer.new at result (filled template.now numbers) }
+    ensures { Wrote (10 * length template.now) buffer.old buffer.new at result (filled template.now numbers.now) }
 {
     let mut next = at;
     let mut used = 0;
-    let mut i = 0;
-    while i < template.len() {
-        let byte = template[i];
+    for &byte in template {
         next = put_piece(buffer, next, byte, number_at(numbers, used));
         used = used_after(byte, used);
-        i += 1;
     }
     next
 }
 
 // The same with room or without. No entry; where there are not ten bytes for each byte of the template it writes nothing and gives the place
 // that it was given.
-pub fn put_template(buffer: &mut [u8], at: usize, template: &[u8], numbers: [u32; MOST]) -> usize
-    ensures { Templated template.now numbers buffer.old buffer.new at result }
+pub fn put_template(buffer: &mut [u8], at: usize, template: &[u8], numbers: &[u32]) -> usize
+    ensures { Templated template.now numbers.now buffer.old buffer.new at result }
 {
     if buffer.len() < at {
         return at;
@@ -114,21 +105,19 @@ fn line_start(text: &[u8], k: usize) -> usize
     ensures { (result ≤ length text.now) × (drop result text.now ≡ after_lines k text.now) }
 {
     let mut at = 0;
-    let mut i = 0;
-    while i < k {
+    for i in 0..k {
         let end = words::find(Mark::LineEnd, text, at);
         if text.len() <= end {
             return text.len();
         }
         at = end + 1;
-        i += 1;
     }
     at
 }
 
 // Line k of a text, counted from 0, as a template. No entry; it writes nothing where put_template would not.
-pub fn put_line(buffer: &mut [u8], at: usize, text: &[u8], k: usize, numbers: [u32; MOST]) -> usize
-    ensures { Templated (line_of text.now k) numbers buffer.old buffer.new at result }
+pub fn put_line(buffer: &mut [u8], at: usize, text: &[u8], k: usize, numbers: &[u32]) -> usize
+    ensures { Templated (line_of text.now k) numbers.now buffer.old buffer.new at result }
 {
     let start = line_start(text, k);
     let end = words::find(Mark::LineEnd, text, start);

@@ -1,13 +1,8 @@
-use Prim.Native.Nat.{◌+◌, ◌*◌, ◌-◌, ◌≤◌}
-use mathlib.Core.Path.{◌≡◌}
+use Prim.Native.Nat.{◌*◌}
 use mathlib.Core.List.{[], ◌∷◌}
-use lib.ListN.{length}
 use Rattle.writing.specs.Templates.{rows_to, Wrote}
-use Rattle.explaining.specs.Explanations.{columns, cell_of}
+use Rattle.explaining.specs.Explanations.{cell_of}
 use Rattle.explaining.proofs.put_bar.Given as goal
 
 abbrev pub invariant-loop-column : goal.invariant-loop-column
-invariant-loop-column l = (l.column ≤ columns) × (length l.output ≡ length l.initial.output) × (l.at ≤ l.from + 10 * l.column) × Wrote (10 * l.column) l.initial.output l.output l.from l.at (rows_to (λ i. cell_of l.parts l.deadline i ∷ []) l.column)
-
-abbrev pub decreases-loop-column : goal.decreases-loop-column
-decreases-loop-column l = columns - l.column
+invariant-loop-column l = Wrote (10 * l.column) l.initial.output l.output l.from l.at (rows_to (λ i. cell_of l.parts l.deadline i ∷ []) l.column)

@@ -4,8 +4,7 @@ use mathlib.Core.Bool.{Bool}
 use native.Mathlib.Nat.{zero-add}
 use native.Mathlib.Omega.{arith}
 use Rattle.records.specs.Limits.{most_jobs}
-use Rattle.records.specs.Refusals.{Answer, given}
-use Rattle.text.specs.Answers.{placed}
+use Rattle.records.specs.Refusals.{given}
 use Rattle.writing.specs.Templates.{filled}
 use Rattle.writing.proofs.Writing.{then}
 use Rattle.marking.specs.Marks.{none_over}
@@ -20,8 +19,8 @@ returns c =
     let rows = c.put_jobs-last.ensures in
     let closing = c.put_template-length.ensures.wrote (omega (arith, rows.next, rows.short, c.requires.1)) in
     let all = then rows closing in (
-      ap₂ (λ (x : Answer Bool) (y : ℕ × ℕ). placed x y.0 y.1)
-          (c.yes_or_no.ensures ∙ ap (λ (b : Bool). given b) (c.none_zero.ensures ∙ ap (λ (k : ℕ). none_over k a.bounds) n))
+      ap₂ (λ (b : Bool) (y : ℕ × ℕ). given (b, y))
+          (c.none_zero.ensures ∙ ap (λ (k : ℕ). none_over k a.bounds) n)
           (ap₂ (λ (x y : ℕ). (x, y)) (rows.next ∙ zero-add _) (all.next ∙ zero-add _)),
       omega (arith, closing.next),
       all,

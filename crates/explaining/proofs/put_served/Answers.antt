@@ -6,9 +6,6 @@ use Rattle.explaining.specs.Explanations.{served_text}
 use borrow.Author.Rules.{rules}
 use Rattle.explaining.proofs.put_served.Goals as goal
 
-pub put_bar-after_bar-requires : goal.put_bar-after_bar-requires
-put_bar-after_bar-requires c = let sum = c.put_template-after_sum.ensures.wrote (search rules) in omega (arith, sum.next, sum.short)
-
 pub returns : goal.returns
 unfolding served_text filled
 returns c =

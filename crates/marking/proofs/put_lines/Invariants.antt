@@ -1,12 +1,8 @@
-use Prim.Native.Nat.{◌*◌, ◌-◌, ◌≤◌}
-use mathlib.Core.Path.{◌≡◌}
+use Prim.Native.Nat.{◌*◌}
 use lib.ListN.{length}
 use Rattle.writing.specs.Templates.{rows_to, Wrote}
 use Rattle.marking.specs.Marks.{mark_line}
 use Rattle.marking.proofs.put_lines.Given as goal
 
-abbrev pub invariant-loop-k : goal.invariant-loop-k
-invariant-loop-k l = (l.k ≤ l.n) × (length l.output ≡ length l.initial.output) × (l.at ≤ 370 * l.k) × Wrote (370 * l.k) l.initial.output l.output 0 l.at (rows_to (mark_line l.jobs l.bounds) l.k)
-
-abbrev pub decreases-loop-k : goal.decreases-loop-k
-decreases-loop-k l = l.n - l.k
+abbrev pub invariant-loop-job : goal.invariant-loop-job
+invariant-loop-job l = Wrote (370 * length l.yielded) l.initial.output l.output 0 l.at (rows_to (mark_line l.fn.jobs l.fn.bounds) (length l.yielded))

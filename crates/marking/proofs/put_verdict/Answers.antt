@@ -20,9 +20,6 @@ returns-then-none_zero c =
     let a = c.args in
     retold (widened 230 (c.put_template.ensures.wrote (search rules)) (omega arith)) (sym (ap (λ (b : Bool). cond b (112 ∷ 97 ∷ 115 ∷ 115 ∷ 101 ∷ 115 ∷ 10 ∷ []) (fails_line a.n a.jobs a.bounds)) (sym (passing (goal.at.returns-then-none_zero c).After-none_zero) ∙ c.if-none_zero.true)))
 
-pub put_overs-after_jobs-requires : goal.put_overs-after_jobs-requires
-put_overs-after_jobs-requires c = let word = c.put_template-after_word.ensures.wrote (search rules) in (search rules, omega (arith, word.next, word.short))
-
 pub returns : goal.returns
 unfolding filled
 returns c =

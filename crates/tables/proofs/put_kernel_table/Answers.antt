@@ -11,4 +11,4 @@ pub returns : goal.returns
 unfolding kernels_text
 returns c =
     let a = c.args in
-    whole (retold c.put_kernels.ensures (ap (flat kernel_text) (cut-take a.kernels most_jobs a.n c.at_most.result (search rules) c.at_most.ensures))) (search rules)
+    whole (retold c.put_lines.ensures (ap (flat kernel_text) (cut-take a.kernels most_jobs a.n c.at_most.result (search rules) c.at_most.ensures))) (search rules)

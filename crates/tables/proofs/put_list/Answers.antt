@@ -11,4 +11,4 @@ pub returns : goal.returns
 unfolding list_text
 returns c =
     let a = c.args in
-    whole (retold c.put_jobs.ensures (ap (flat job_text) (cut-take a.jobs most_jobs a.n c.at_most.result (search rules) c.at_most.ensures))) (search rules)
+    whole (retold c.put_lines.ensures (ap (flat job_text) (cut-take a.jobs most_jobs a.n c.at_most.result (search rules) c.at_most.ensures))) (search rules)

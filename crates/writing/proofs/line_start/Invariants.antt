@@ -5,7 +5,4 @@ use Rattle.writing.specs.Templates.{after_lines}
 use Rattle.writing.proofs.line_start.Given as goal
 
 abbrev pub invariant-loop-i : goal.invariant-loop-i
-invariant-loop-i l = (l.i ≤ l.k) × (l.at ≤ length l.text) × (after_lines (l.k - l.i) (drop l.at l.text) ≡ after_lines l.k l.text)
-
-abbrev pub decreases-loop-i : goal.decreases-loop-i
-decreases-loop-i l = l.k - l.i
+invariant-loop-i l = (l.at ≤ length l.text) × (after_lines (l.k - l.i) (drop l.at l.text) ≡ after_lines l.k l.text)

@@ -4,9 +4,6 @@ use Rattle.writing.proofs.Writing.{then, whole}
 use borrow.Author.Rules.{rules}
 use Rattle.messages.proofs.fault.put_fault.Goals as goal
 
-pub put_message-after_message-requires : goal.put_message-after_message-requires
-put_message-after_message-requires c = let line = c.put_template-after_line.ensures.wrote (search rules) in omega (arith, line.next, line.short)
-
 pub returns : goal.returns
 unfolding filled
 returns c =

@@ -18,4 +18,4 @@ returns c =
     let told = fault-told a.fault in
     let wrote = (from-template c.put_line.ensures (ap (line_of (lines_of fault_template faults)) c.fault_line.ensures ∙ told.0)).wrote (omega (arith, told.1)) in
     retold (widened 600 wrote (omega (arith, told.1)))
-    (filled-same (fault_template a.fault) c.fault_numbers.result (fault_numbers a.fault) (λ i. ap (λ (l : List ℕ). get_or l i 0) c.fault_numbers.ensures ∙ table_at 0 (fault_numbers a.fault) (8 - length (fault_numbers a.fault)) i))
+    (filled-same (fault_template a.fault) c.fault_numbers.result (fault_numbers a.fault) (λ i. ap (λ (l : List ℕ). get_or l i 0) c.fault_numbers.ensures ∙ table_at 0 (fault_numbers a.fault) (2 - length (fault_numbers a.fault)) i))

@@ -5,15 +5,6 @@ use Rattle.writing.proofs.Writing.{then, whole}
 use Rattle.messages.specs.Refusals.{refusal_text}
 use Rattle.messages.proofs.refusal.put_refusal.Goals as goal
 
-pub put_record-after_record-requires : goal.put_record-after_record-requires
-put_record-after_record-requires c = let refused = c.put_template-after_number.ensures.wrote (search rules) in omega (arith, refused.next, refused.short)
-
-pub put_sentence-after_sentence-requires : goal.put_sentence-after_sentence-requires
-put_sentence-after_sentence-requires c =
-    let refused = c.put_template-after_number.ensures.wrote (search rules) in
-    let named = c.put_record-after_record.ensures in
-    omega (arith, refused.next, refused.short, named.next, named.short)
-
 pub returns : goal.returns
 unfolding refusal_text filled
 returns c =

@@ -1,24 +1,31 @@
-use Prim.Native.Nat.{ℕ, ◌*◌}
-use mathlib.Core.Path.{◌≡◌, refl, subst}
+use Prim.Native.Nat.{ℕ, ◌<◌}
+use mathlib.Core.Path.{◌≡◌, ap₂, ◌∙◌}
+use mathlib.Core.List.{[], ◌∷◌}
 use native.Mathlib.Omega.{arith}
-use Rattle.writing.specs.Templates.{rows_to, Wrote}
+use lib.ListN.{length, get_or, take, length-take}
+use lib.Seq.{get_or-take}
+use Rattle.std.proofs.lemmas.Slice.Zip.{zip_turn}
+use Rattle.configuration.specs.declared.setting.Setting.{Setting}
+use Rattle.configuration.specs.Settings.{blank_setting}
 use Rattle.text.specs.Keys.{job_line}
-use Rattle.writing.proofs.Writing.{then, retold, widened, nothing, rows_next}
+use Rattle.writing.proofs.Writing.{row-more}
 use borrow.Author.Rules.{rules}
 use Rattle.text.proofs.key.put_jobs.Goals as goal
+use Rattle.text.proofs.key.put_jobs.Goals.{In-Some}
 
-pub loop-k-init : goal.loop-k-init
-loop-k-init c = (search rules, refl, search rules, nothing _ _)
-
-pub loop-k-preserved : goal.loop-k-preserved
-loop-k-preserved c =
-    let put = c.put_job-at in
+-- Where this turn's setting and bound stand.
+turn : (c : In-Some) → let a = c.args in let k = length c.loop-setting.yielded in
+    (k < a.n) × (c.in-Some.setting.now ≡ get_or a.settings k blank_setting) × (c.in-Some.bound.now ≡ get_or a.bounds k 0)
+turn c =
     let a = c.args in
-    (search rules, search rules, omega (arith, put.ensures.next, put.ensures.short), widened _ (retold (then c.loop-k.invariant.3 put.ensures) (rows_next (job_line a.settings a.bounds) c.loop-k.k)) (omega arith))
+    let k = length c.loop-setting.yielded in
+    let at = zip_turn (take a.n a.settings) a.bounds c.loop-setting.yielded _ c.loop-setting.setting-iterator c.next.new.self c.next.result (search rules) (search rules) c.loop-setting.yielded_by _ c.in-Some.is c.next.ensures.steps in
+    let within : k < a.n = omega (arith, at.0, length-take a.n a.settings) in
+    (within, at.2 blank_setting ∙ get_or-take a.n a.settings k blank_setting within, at.3 0)
 
-pub returns : goal.returns
-returns c =
-    let l = c.loop-k in
+pub loop-setting-preserved : goal.loop-setting-preserved
+loop-setting-preserved c =
     let a = c.args in
-    let e : l.k ≡ a.n = omega arith in
-    widened 800 (subst (λ (j : ℕ). Wrote (100 * j) a.output.now l.output 0 l.at (rows_to (job_line a.settings a.bounds) j)) e l.invariant.3) (omega arith)
+    let here = turn (goal.at.loop-setting-preserved c).In-Some in
+    row-more 100 (job_line a.settings a.bounds) c.loop-setting.yielded _ c.loop-setting.invariant c.put_job-at.ensures
+    (ap₂ (λ (s : Setting) (b : ℕ). job_line (s ∷ []) (b ∷ []) 0) here.1 here.2)
