@@ -1,6 +1,4 @@
 // Slices of more jobs than a table has, for the edit alone: the product's own readers and writers, a table and what is past it.
-ghost use Rattle.io.specs.Counts.{IsPrefixLen};
-
 use desk::held::ROOM;
 use records::job::Job;
 
@@ -43,14 +41,4 @@ pub fn job_bytes(jobs: [Job; ROOM]) -> [u8; SLICE] {
     records::block::write_unjudged(head, Job::MOST, &mut bytes);
     records::block::write_unjudged(rest, ROOM - Job::MOST, &mut bytes[TABLE..]);
     bytes
-}
-
-// A length, or that of a buffer where it has fewer bytes.
-pub fn at_most(length: usize, buffer: &[u8]) -> usize
-    ensures { IsPrefixLen result buffer.now }
-{
-    if length < buffer.len() {
-        return length;
-    }
-    buffer.len()
 }
