@@ -15,7 +15,7 @@ use Rattle.records.specs.declared.job.Job.{Job}
 use Rattle.response.specs.Demand.{bound}
 use Rattle.response.proofs.Easier.{bound-same}
 use Rattle.assignment.specs.Plan.{smallest, quantum_ranges, serves}
-use Rattle.assignment.specs.Layers.{Fits, Low, Standing, Hopeless, Raised, Raises, Settled, Settles}
+use Rattle.assignment.specs.Layers.{Fits, Low, Standing, Hopeless, Raised, Settled}
 use Rattle.assignment.proofs.Serving.{Costs, in-range, ranged-fits, raise, settled, hopeless}
 
 module _ (jobs : List Job) (costs : Costs jobs) (low high : ℕ) (lp : 0 < low) (layer above : Set) where
@@ -24,9 +24,6 @@ module _ (jobs : List Job) (costs : Costs jobs) (low high : ℕ) (lp : 0 < low) 
 
   abbrev Stands : List ℕ → Type 0
   Stands = Standing jobs low high layer above
-
-  abbrev Says : Set → List ℕ → Bool → List ℕ → Type 0
-  Says = Settles jobs low high layer above
 
   -- ---- one job's quantum is raised
 
@@ -60,25 +57,8 @@ module _ (jobs : List Job) (costs : Costs jobs) (low high : ℕ) (lp : 0 < low) 
   -- ---- the pending jobs
 
   -- None is pending.
-  pub says_none : (pending : Set) (q : List ℕ) → ((i : ℕ) → pending i ≡ false) → Stands q → Says pending q true q
-  says_none pending q h S = record { standing = S; kept = λ i e. refl; served = λ k l e. absurd (false≢true (sym (h k) ∙ e)) }
-
-  -- No quanta serve the layer, whichever jobs were pending.
-  pub says-fails : (pending pending' : Set) (v v' : List ℕ) (b : Bool) (u u' : List ℕ) → b ≡ false → Says pending v b u → Says pending' v' b u'
-  says-fails pending pending' v v' b u u' e x = rw e (rw e at x)
-
-  pub raise-fails : (k : ℕ) (q : List ℕ) (pending : Set) (v : List ℕ) (b : Bool) (u : List ℕ) → b ≡ false → Raises jobs low high layer above k q b u → Says pending v b u
-  raise-fails k q pending v b u e x = rw e (rw e at x)
-
-  pub raises-raised : (k : ℕ) (q : List ℕ) (b : Bool) (u : List ℕ) → b ≡ true → Raises jobs low high layer above k q b u
-      → Raised jobs low high layer above k q u × (0 < bound jobs u layer above k)
-  raises-raised k q b u e x = rw e at x
-
-  pub says-ends : (pending : Set) (v : List ℕ) (b : Bool) (u : List ℕ) → b ≡ true → Settled jobs low high layer above pending v u → Says pending v b u
-  says-ends pending v b u e x = rw e x
-
-  pub says-settled : (pending : Set) (v : List ℕ) (b : Bool) (u : List ℕ) → b ≡ true → Says pending v b u → Settled jobs low high layer above pending v u
-  says-settled pending v b u e x = rw e at x
+  pub none-pending : (pending : Set) (q : List ℕ) → ((i : ℕ) → pending i ≡ false) → Stands q → Settled jobs low high layer above pending q q
+  none-pending pending q h S = record { standing = S; kept = λ i e. refl; served = λ k l e. absurd (false≢true (sym (h k) ∙ e)) }
 
   -- One turn: the job k is pending with the set after it; v is where the quanta stood at first, now is where the jobs after were
   -- settled from, they came to u, and the job's own quantum was then raised to w.
@@ -132,11 +112,9 @@ module _ (jobs : List Job) (costs : Costs jobs) (low high : ℕ) (lp : 0 < low) 
       hopeless jobs costs low high lp layer above q k kn kl unserved (omega arith)
       (λ w f served i il e d. let v : get_or q i 0 ≡ low = others i d ∙ rw e in omega (arith, (in-range low high layer n w f i il e).0))
 
-  -- The answer is the smallest list, or that there is none.
-  pub says-smallest : (v : List ℕ) (b : Bool) (u : List ℕ) → Says layer v b u
-      → cond {A = Option (List ℕ)} b (some (take n u)) none ≡ smallest (quantum_ranges low high layer n) (serves jobs layer above)
-  says-smallest v false u e = sym e
-  says-smallest v true u S =
+  -- What is settled from the lowest quanta is the smallest list.
+  pub says-smallest : (v u : List ℕ) → Settled jobs low high layer above layer v u → some (take n u) ≡ smallest (quantum_ranges low high layer n) (serves jobs layer above)
+  says-smallest v u S =
       sym (settled jobs costs low high lp layer above (take n u) least
       (ranged-fits low high layer n (take n u) (length-take-le n u S.standing.long)
       (λ i l e. rw (get_or-take n u i 0 l) (S.standing.in_range i l e)) (λ i l e. get_or-take n u i 0 l ∙ S.standing.zero i l e))

@@ -1,6 +1,6 @@
 -- How the quanta of a layer are settled: they are raised from the lowest and never above a list that serves the layer. These are the
 -- terms in which the code that raises them is compared with the search through all lists. Assumes nothing.
-use Rattle.std.specs.Prelude.{ℕ, ◌+◌, ◌≤◌, ◌<◌, ◌≡◌, Bool, true, false, List, [], ◌∷◌, length, get_or}
+use Rattle.std.specs.Prelude.{ℕ, Option, None, Some, ◌+◌, ◌≤◌, ◌<◌, ◌≡◌, true, false, List, [], ◌∷◌, length, get_or}
 use Rattle.std.proofs.Math.Option.{none}
 use Rattle.sets.specs.Sets.{Set}
 use Rattle.records.specs.declared.job.Job.{Job}
@@ -40,9 +40,9 @@ pub record Raised (jobs : List Job) (low high : ℕ) (layer above : Set) (k : �
   pub rises : get_or before k 0 ≤ get_or after k 0
 
 -- What raising answers: found and served, or hopeless.
-abbrev pub Raises : List Job → ℕ → ℕ → Set → Set → ℕ → List ℕ → Bool → List ℕ → Type 0
-Raises jobs low high layer above k before true after = Raised jobs low high layer above k before after × (0 < bound jobs after layer above k)
-Raises jobs low high layer above k before false after = Hopeless jobs low high layer above
+abbrev pub Raises : List Job → ℕ → ℕ → Set → Set → ℕ → List ℕ → Option (List ℕ) → Type 0
+Raises jobs low high layer above k before (Some after) = Raised jobs low high layer above k before after × (0 < bound jobs after layer above k)
+Raises jobs low high layer above k before None = Hopeless jobs low high layer above
 
 -- The pending jobs are served, and only their quanta were raised.
 pub record Settled (jobs : List Job) (low high : ℕ) (layer above pending : Set) (before after : List ℕ) : Type 0 where
@@ -51,6 +51,6 @@ pub record Settled (jobs : List Job) (low high : ℕ) (layer above pending : Set
   pub served : (k : ℕ) → k < length jobs → pending k ≡ true → 0 < bound jobs after layer above k
 
 -- What settling answers: found and settled, or hopeless.
-abbrev pub Settles : List Job → ℕ → ℕ → Set → Set → Set → List ℕ → Bool → List ℕ → Type 0
-Settles jobs low high layer above pending before true after = Settled jobs low high layer above pending before after
-Settles jobs low high layer above pending before false after = Hopeless jobs low high layer above
+abbrev pub Settles : List Job → ℕ → ℕ → Set → Set → Set → List ℕ → Option (List ℕ) → Type 0
+Settles jobs low high layer above pending before (Some after) = Settled jobs low high layer above pending before after
+Settles jobs low high layer above pending before None = Hopeless jobs low high layer above

@@ -32,11 +32,8 @@ fn put_amounts(amounts: [u32; AMOUNTS], output: &mut [u8])
     requires { 20 ≤ length output.old }
     ensures { output.new ≡ written 4 long_bytes amounts output.old }
 {
-    let mut i = 0;
-    while i < AMOUNTS {
-        let amount = amounts[i];
-        put_long(&mut output[AMOUNT_SIZE * i..], amount);
-        i += 1;
+    for (i, amount) in amounts.iter().enumerate() {
+        put_long(&mut output[AMOUNT_SIZE * i..], *amount);
     }
 }
 
@@ -70,10 +67,7 @@ pub(crate) fn encode(table: [Parts; Job::MOST], n: usize, output: &mut [u8])
     requires { (n ≤ most_jobs) × (parts_size * n ≤ length output.old) }
     ensures { output.new ≡ written parts_size parts_bytes (take n table) output.old }
 {
-    let mut i = 0;
-    while i < n {
-        let parts = table[i];
-        put_parts(&mut output[block::PARTS_SIZE * i..], parts);
-        i += 1;
+    for (i, parts) in table[..n].iter().enumerate() {
+        put_parts(&mut output[block::PARTS_SIZE * i..], *parts);
     }
 }

@@ -1,18 +1,20 @@
 -- The configuration block: what is read and what is written, and which refusal applies first. Assumes nothing.
-use Rattle.std.specs.Prelude.{ℕ, ◌*◌, List, [], ◌∷◌, ◌++◌, eqb, length, take}
-use Rattle.records.specs.Refusals.{Answer, Tests, outcome, counted}
+use Rattle.std.specs.Prelude.{ℕ, Result, Ok, Err, ◌*◌, List, [], ◌∷◌, ◌++◌, eqb, length, take}
+use Rattle.records.specs.Refusals.{Answer, given, Tests, outcome, turned}
 use Rattle.records.specs.Records.{written, room_tests}
 use Rattle.records.specs.Jobs.{job_list}
 use Rattle.records.specs.Calls.{call_tests}
 use Rattle.records.specs.declared.job.Job.{Job}
+use Rattle.records.specs.declared.refusal.Refusal.{Refusal}
 use Rattle.configuration.specs.declared.setting.Setting.{Setting}
-use Rattle.configuration.specs.declared.block.ConfigurationRead.{ConfigurationRead}
+use Rattle.configuration.specs.declared.block.SettingTable.{SettingTable}
 use Rattle.configuration.specs.Settings.{setting_size, setting_bytes, settings_in, setting_table}
 use Rattle.configuration.specs.Configuration.{setting_tests, full_tests}
 
--- What the readers answer, in 01's numbers and values: the number of records; and the table.
-abbrev pub configuration_outcome : ConfigurationRead → Answer ℕ × List Setting
-configuration_outcome r = (counted r.answer, r.settings)
+-- What the readers answer, in 01's numbers and values: the number of records; and the table, blank where there is none.
+abbrev pub configuration_outcome : Result SettingTable Refusal → Answer ℕ × List Setting
+configuration_outcome (Ok settings) = (given settings.count, settings.table)
+configuration_outcome (Err refusal) = turned refusal (setting_table [])
 
 -- ---- reading for a list of jobs and a range
 

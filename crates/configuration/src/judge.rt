@@ -3,12 +3,14 @@ ghost use Rattle.std.specs.Prelude.{◌≡◌, ◌≤◌, ◌<◌, min, take};
 ghost use Rattle.sets.specs.Places.{failing};
 ghost use Rattle.records.specs.Limits.{most_jobs};
 ghost use Rattle.records.specs.Refusals.{answer, verdict};
+ghost use Rattle.records.specs.Jobs.{listed};
 ghost use Rattle.configuration.specs.Configuration.{placed_level, scheduled, shaped, sharing, may_share, levelled, setting_ok, all_ok, setting_tests};
 
 use crate::setting::Setting;
+use records::call::Call;
 use records::job::Job;
 use records::range::Range;
-use records::refusal::{Refusal, Verdict};
+use records::refusal::Refusal;
 
 // Whether a placed job of n can have the level.
 fn is_level(n: usize, level: u8) -> bool
@@ -58,13 +60,11 @@ fn on_level(settings: [Setting; Job::MOST], n: usize, level: u8) -> usize
     ensures { result ≡ sharing n settings level }
 {
     let mut jobs = 0;
-    let mut i = 0;
-    while i < n {
+    for i in 0..n {
         let setting = settings[i];
         if setting.level == level {
             jobs += 1;
         }
-        i += 1;
     }
     jobs
 }
@@ -124,58 +124,40 @@ fn setting_ok(
     }
 }
 
-// The place of the first of the first n settings of which the rule does not hold; n where it holds of each. No entry; for n past 8 it
-// takes all 8 settings.
-pub fn first_faulty(
-    rule: SettingRule,
-    jobs: [Job; Job::MOST],
-    settings: [Setting; Job::MOST],
-    n: usize,
-    range: Range,
-) -> usize
-    ensures { result ≡ failing (setting_ok rule (min n most_jobs) jobs range.low range.high settings) (min n most_jobs) }
+// The place of the first of the settings of a call's jobs of which the rule does not hold; their number where it holds of each. No entry;
+// for a call of more than 8 jobs it takes all 8 settings.
+pub fn first_faulty(rule: SettingRule, call: Call, settings: [Setting; Job::MOST]) -> usize
+    ensures { result ≡ failing (setting_ok rule (min call.jobs.count most_jobs) call.jobs.table call.range.low call.range.high settings) (min call.jobs.count most_jobs) }
 {
-    let count = Job::at_most(n);
-    let mut i = 0;
-    while i < count {
-        if !setting_ok(rule, jobs, settings, count, range, i) {
+    let jobs = call.jobs.table;
+    let count = Job::at_most(call.jobs.count);
+    for i in 0..count {
+        if !setting_ok(rule, jobs, settings, count, call.range, i) {
             return i;
         }
-        i += 1;
     }
     count
 }
 
-// Whether the rule holds of each of the first n settings.
-pub(crate) fn all_ok(
-    rule: SettingRule,
-    jobs: [Job; Job::MOST],
-    settings: [Setting; Job::MOST],
-    n: usize,
-    range: Range,
-) -> bool
-    ensures { result ≡ all_ok rule (take n jobs) range.low range.high (take n settings) }
+// Whether the rule holds of each setting of a call's jobs.
+pub(crate) fn all_ok(rule: SettingRule, call: Call, settings: [Setting; Job::MOST]) -> bool
+    ensures { result ≡ all_ok rule (listed call.jobs) call.range.low call.range.high (take call.jobs.count settings) }
 {
-    first_faulty(rule, jobs, settings, n, range) == Job::at_most(n)
+    first_faulty(rule, call, settings) == Job::at_most(call.jobs.count)
 }
 
-// Judges the first n settings of a table: refusals 8, 9 and 10.
-pub(crate) fn judge_settings(
-    jobs: [Job; Job::MOST],
-    settings: [Setting; Job::MOST],
-    n: usize,
-    range: Range,
-) -> Verdict
-    ensures { verdict result ≡ answer (setting_tests (take n jobs) range.low range.high (take n settings)) tt }
+// Judges the settings of a call's jobs: refusals 8, 9 and 10.
+pub(crate) fn judge_settings(call: Call, settings: [Setting; Job::MOST]) -> Result<(), Refusal>
+    ensures { verdict result ≡ answer (setting_tests (listed call.jobs) call.range.low call.range.high (take call.jobs.count settings)) tt }
 {
-    if !all_ok(SettingRule::Id, jobs, settings, n, range) {
-        return Verdict::Refused(Refusal::ConfigurationIds);
+    if !all_ok(SettingRule::Id, call, settings) {
+        return Err(Refusal::ConfigurationIds);
     }
-    if !all_ok(SettingRule::Shape, jobs, settings, n, range) {
-        return Verdict::Refused(Refusal::RecordShape);
+    if !all_ok(SettingRule::Shape, call, settings) {
+        return Err(Refusal::RecordShape);
     }
-    if !all_ok(SettingRule::Sharing, jobs, settings, n, range) {
-        return Verdict::Refused(Refusal::LevelSharing);
+    if !all_ok(SettingRule::Sharing, call, settings) {
+        return Err(Refusal::LevelSharing);
     }
-    Verdict::Accepted
+    Ok(())
 }

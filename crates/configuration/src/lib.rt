@@ -2,6 +2,5 @@
 #![tactic(auto)]
 
 pub mod block;
-mod bytes;
 pub mod judge;
 pub mod setting;

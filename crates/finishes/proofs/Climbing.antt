@@ -9,7 +9,8 @@ use borrow.Author.Tests.{eq-eqb, ne_eqb, le-leb, lt-leb, lt-ltb, le-ltb}
 use Rattle.sets.specs.Sets.{Set}
 use Rattle.records.specs.declared.job.Job.{Job}
 use Rattle.response.specs.Demand.{interference, least}
-use Rattle.finishes.specs.Finishes.{Table, whole, steps, climb, far_time, time_from, time_for, longest_time, time_within, work_by}
+use Rattle.finishes.specs.Finishes.{whole, steps, climb, far_time, time_from, time_for, longest_time, time_within, work_by}
+use Rattle.finishes.specs.declared.capacity.Table.{Table}
 use Rattle.response.proofs.Least.{Rising, least-found, least-is, least-none, covered}
 
 module _ (f g : ℕ → ℕ) (d : ℕ) where

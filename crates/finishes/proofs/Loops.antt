@@ -14,7 +14,8 @@ use Rattle.sets.proofs.Members.{has_rest}
 use Rattle.records.specs.Limits.{most_jobs}
 use Rattle.records.specs.Jobs.{job_at}
 use Rattle.records.specs.declared.job.Job.{Job}
-use Rattle.finishes.specs.Finishes.{Table, whole, load, spare_of, delays_of, most_carried, carried, short_of, long_of}
+use Rattle.finishes.specs.Finishes.{whole, load, spare_of, delays_of, most_carried, carried, short_of, long_of}
+use Rattle.finishes.specs.declared.capacity.Table.{Table}
 
 -- ---- the set above in two parts
 

@@ -12,7 +12,8 @@ use Rattle.records.specs.declared.job.Job.{Job}
 use Rattle.response.specs.Demand.{interference, least}
 use Rattle.response.proofs.Least.{Rising, least-found, least-none, covered}
 use Rattle.response.proofs.Easier.{interference-mono, interference-split}
-use Rattle.finishes.specs.Finishes.{whole, Table, utilisations_of, table_of, spare_of, carried, steps, short_of, long_of, estimate, short_part, plain_steps, far_time, time_from, time_for}
+use Rattle.finishes.specs.Finishes.{whole, utilisations_of, table_of, spare_of, carried, steps, short_of, long_of, estimate, short_part, plain_steps, far_time, time_from, time_for}
+use Rattle.finishes.specs.declared.capacity.Table.{Table}
 use Rattle.finishes.proofs.Climbing.{Below, below-later, steps-past, steps-end, steps-below, loop-least, loop-falls, loop-past, time-idle, time-full, time-start}
 use Rattle.finishes.proofs.Utilisation.{interference-one, leaves}
 

@@ -6,6 +6,7 @@ use Rattle.sets.specs.Sets.{Set}
 use Rattle.records.specs.Jobs.{job_at}
 use Rattle.records.specs.declared.job.Job.{Job}
 use Rattle.response.specs.Demand.{interference}
+use Rattle.finishes.specs.declared.capacity.Table.{Table}
 
 -- The whole processor, in the parts by which utilisation is counted.
 abbrev pub whole : ℕ
@@ -14,11 +15,6 @@ whole = 1048576
 -- A job's utilisation, in such parts and rounded down; the whole where it is more.
 unfoldable pub utilisation : Job → ℕ
 utilisation job = min (job.cost * whole / job.period) whole
-
--- The jobs of a table and the utilisation of each.
-pub record Table : Type 0 where
-  pub jobs : List Job
-  pub utilisations : List ℕ
 
 abbrev pub utilisations_of : List Job → List ℕ
 utilisations_of jobs = list_of (λ i. utilisation (job_at jobs i)) (length jobs)

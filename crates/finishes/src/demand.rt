@@ -26,18 +26,17 @@ fn work(job: Job, t: u32) -> u64
     (ceil_div(t + job.delay as u32, job.period as u32) as u64) * (job.cost as u64)
 }
 
-// The work of the jobs of the set above within t ticks.
+// The work of the jobs of the set above within t ticks. Within the search it has to be in line: out of line plans take longer.
+#[inline(always)]
 pub(crate) fn interference(jobs: [Job; Job::MOST], above: u8, t: u32) -> u64
     requires { t < 2 ^ 22 }
     ensures { (result ≡ interference jobs (has above) t) × (result ≤ 2 ^ 42) }
 {
     let mut sum: u64 = 0;
-    let mut i = 0;
-    while i < Job::MOST {
+    for (i, job) in jobs.iter().enumerate() {
         if sets::contains(above, i) {
-            sum += work(jobs[i], t);
+            sum += work(*job, t);
         }
-        i += 1;
     }
     sum
 }
@@ -56,15 +55,13 @@ pub(crate) fn works_of(jobs: [Job; Job::MOST], long: u8, short: u8, t: u32) -> W
 {
     let mut of_long: u64 = 0;
     let mut of_short: u64 = 0;
-    let mut i = 0;
-    while i < Job::MOST {
+    for (i, job) in jobs.iter().enumerate() {
         if sets::contains(long, i) {
-            of_long += work(jobs[i], t);
+            of_long += work(*job, t);
         }
         if sets::contains(short, i) {
-            of_short += work(jobs[i], t);
+            of_short += work(*job, t);
         }
-        i += 1;
     }
     Works {
         long: of_long,
@@ -72,21 +69,12 @@ pub(crate) fn works_of(jobs: [Job; Job::MOST], long: u8, short: u8, t: u32) -> W
     }
 }
 
-// The same of one set, for callers that know a finish: 0 past the last time that is sought. It is no entry and judges nothing. The loop is
-// its own, since the compiler puts `interference` into the search only while the search alone calls it.
+// The same of one set, for callers that know a finish: 0 past the last time that is sought. It is no entry and judges nothing.
 pub fn work_by(jobs: [Job; Job::MOST], set: u8, t: u32) -> u64
     ensures { result ≡ work_by jobs (has set) t }
 {
     if LONGEST_TIME < t {
         return 0;
     }
-    let mut sum: u64 = 0;
-    let mut i = 0;
-    while i < Job::MOST {
-        if sets::contains(set, i) {
-            sum += work(jobs[i], t);
-        }
-        i += 1;
-    }
-    sum
+    interference(jobs, set, t)
 }

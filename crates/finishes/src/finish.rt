@@ -1,13 +1,13 @@
 // The search for a finish: some plain steps of the iteration, then steps with an estimate.
-ghost use Rattle.std.specs.Prelude.{◌≡◌, suc, ◌+◌, ◌*◌, ◌/◌, ◌<◌, ◌≤◌, max, leb};
+ghost use Rattle.std.specs.Prelude.{◌≡◌, suc, ◌+◌, ◌*◌, ◌/◌, ◌<◌, ◌≤◌, leb};
 ghost use Rattle.sets.specs.Sets.{has, Collects};
 ghost use Rattle.records.specs.Limits.{most_jobs};
 ghost use Rattle.records.specs.Jobs.{job_at};
 ghost use Rattle.response.specs.Demand.{interference};
 ghost use Rattle.finishes.specs.Finishes.{whole, climb, far_time, time_for, longest_time, time_within};
 
-use crate::capacity::WHOLE;
-use crate::{capacity, demand};
+use crate::capacity::{Capacity, Table, WHOLE};
+use crate::demand;
 use records::job::Job;
 
 // The last time that is sought: no deadline of the 64 instances of a job lies past it.
@@ -24,26 +24,12 @@ fn short_jobs(jobs: [Job; Job::MOST], longest: u64) -> u8
     ensures { Collects most_jobs (λ i. leb (job_at jobs i).period longest) result }
 {
     let mut set: u8 = 0;
-    let mut i = 0;
-    while i < Job::MOST {
-        let job = jobs[i];
+    for (i, job) in jobs.iter().enumerate() {
         if job.period as u64 <= longest {
-            let more = sets::insert(set, i);
-            set = more;
+            set = sets::insert(set, i);
         }
-        i += 1;
     }
     set
-}
-
-// The later of two times.
-fn later(a: u64, b: u64) -> u64
-    ensures { result ≡ max a b }
-{
-    if a < b {
-        return b;
-    }
-    a
 }
 
 // The iteration from a start up to a limit, for the jobs above in two sets: between two steps those with short periods count by what
@@ -74,93 +60,77 @@ fn climb(
             }
             return 0;
         }
-        t = later(next, (part * WHOLE + carry as u64) / spare);
+        t = next.max((part * WHOLE + carry as u64) / spare);
     }
     0
 }
 
-// The least time from a start up to a limit that equals the own demand with the interference of the set above, or 0.
-fn far_time(
-    jobs: [Job; Job::MOST],
-    utilisations: [u32; Job::MOST],
-    above: u8,
-    own: u64,
-    limit: u32,
-    start: u64,
-) -> u32
-    requires { (own ≤ longest_time) × (limit ≤ longest_time) }
-    ensures { (result ≡ far_time (record { jobs = jobs; utilisations = utilisations }) (has above) own limit start) × (result ≤ limit) × ((result ≡ 0 → ⊥) → start ≤ result) }
-{
-    let long = sets::rest(above, short_jobs(jobs, start / SHORT_PART));
-    let short = sets::rest(above, long);
-    let capacity = capacity::capacity_of(jobs, utilisations, short);
-    let spare = later(1, capacity.spare);
-    climb(jobs, long, short, spare, capacity.carry, own, limit, start)
-}
-
-// The least time up to a limit that equals the own demand with the interference of the set above, or 0, as `time_for` finds it for an own
-// demand and a limit that are no later than the last time that is sought.
-fn time_within(
-    jobs: [Job; Job::MOST],
-    utilisations: [u32; Job::MOST],
-    above: u8,
-    spare: u64,
-    carry: u32,
-    own: u64,
-    limit: u32,
-    before: u32,
-) -> u32
-    requires { (own ≤ longest_time) × (limit ≤ longest_time) }
-    ensures { (result ≡ time_for (record { jobs = jobs; utilisations = utilisations }) (has above) spare carry own limit before) × (result ≤ limit) × ((result ≡ 0 → ⊥) → before ≤ result) }
-{
-    let mut t: u64 = 1;
-    if own != 0 {
-        if spare == 0 {
-            return 0;
-        }
-        t = (own * WHOLE + carry as u64) / spare;
+impl Table {
+    // The least time from a start up to a limit that equals the own demand with the interference of the set above, or 0.
+    fn far_time(self, above: u8, own: u64, limit: u32, start: u64) -> u32
+        requires { (own ≤ longest_time) × (limit ≤ longest_time) }
+        ensures { (result ≡ far_time self (has above) own limit start) × (result ≤ limit) × ((result ≡ 0 → ⊥) → start ≤ result) }
+    {
+        let long = sets::rest(above, short_jobs(self.jobs, start / SHORT_PART));
+        let short = sets::rest(above, long);
+        let capacity = self.capacity_of(short);
+        let spare = capacity.spare.max(1);
+        climb(
+            self.jobs,
+            long,
+            short,
+            spare,
+            capacity.carry,
+            own,
+            limit,
+            start,
+        )
     }
-    t = later(t, before as u64);
-    let late = limit as u64 + 1;
-    let mut step: u32 = 0;
-    while step < PLAIN_STEPS {
-        if late <= t {
-            return 0;
-        }
-        let now = t as u32;
-        let next = own + demand::interference(jobs, above, now);
-        if next <= t {
-            if next == t {
-                return now;
+
+    // The least time up to a limit that equals the own demand with the interference of the set above, or 0, as `time_for` finds it for an
+    // own demand and a limit that are no later than the last time that is sought.
+    fn time_within(self, above: u8, left: Capacity, own: u64, limit: u32, before: u32) -> u32
+        requires { (own ≤ longest_time) × (limit ≤ longest_time) }
+        ensures { (result ≡ time_for self (has above) left.spare left.carry own limit before) × (result ≤ limit) × ((result ≡ 0 → ⊥) → before ≤ result) }
+    {
+        let mut t: u64 = 1;
+        if own != 0 {
+            if left.spare == 0 {
+                return 0;
             }
+            t = (own * WHOLE + left.carry as u64) / left.spare;
+        }
+        t = t.max(before as u64);
+        let late = limit as u64 + 1;
+        for _ in 0..PLAIN_STEPS {
+            if late <= t {
+                return 0;
+            }
+            let now = t as u32;
+            let next = own + demand::interference(self.jobs, above, now);
+            if next <= t {
+                if next == t {
+                    return now;
+                }
+                return 0;
+            }
+            t = next;
+        }
+        self.far_time(above, own, limit, t)
+    }
+
+    // The least time up to a limit that equals the own demand with the interference of the set above, or 0; no such time is below `before`.
+    // `left` is what the set leaves of the processor, and what its delays carry. It is no entry and judges nothing: a limit past the last
+    // time that is sought gives 0, and its contract says what other numbers give.
+    pub fn time_for(self, above: u8, left: Capacity, own: u64, limit: u32, before: u32) -> u32
+        ensures { (result ≡ time_within self (has above) left.spare left.carry own limit before) × (result ≤ limit) × ((result ≡ 0 → ⊥) → before ≤ result) }
+    {
+        if LONGEST_TIME < limit {
             return 0;
         }
-        t = next;
-        step += 1;
+        if (limit as u64) < own {
+            return 0;
+        }
+        self.time_within(above, left, own, limit, before)
     }
-    far_time(jobs, utilisations, above, own, limit, t)
-}
-
-// The least time up to a limit that equals the own demand with the interference of the set above, or 0; no such time is below `before`.
-// `spare` is what the set leaves of the processor, `carry` what its delays carry. It is no entry and judges nothing: a limit past the last
-// time that is sought gives 0, and its contract says what other numbers give.
-pub fn time_for(
-    jobs: [Job; Job::MOST],
-    utilisations: [u32; Job::MOST],
-    above: u8,
-    spare: u64,
-    carry: u32,
-    own: u64,
-    limit: u32,
-    before: u32,
-) -> u32
-    ensures { (result ≡ time_within (record { jobs = jobs; utilisations = utilisations }) (has above) spare carry own limit before) × (result ≤ limit) × ((result ≡ 0 → ⊥) → before ≤ result) }
-{
-    if LONGEST_TIME < limit {
-        return 0;
-    }
-    if (limit as u64) < own {
-        return 0;
-    }
-    time_within(jobs, utilisations, above, spare, carry, own, limit, before)
 }

@@ -1,16 +1,17 @@
 -- The entries to_kernel and from_kernel: what they answer, what they write, and which refusal applies first. Assumes nothing.
-use Rattle.std.specs.Prelude.{ℕ, ◌*◌, List, [], ◌∷◌, ◌++◌, map, eqb, length}
-use Rattle.records.specs.Refusals.{Answer, Tests, outcome, answer, counted}
+use Rattle.std.specs.Prelude.{ℕ, Result, Ok, Err, ◌*◌, List, [], ◌∷◌, ◌++◌, map, eqb, length}
+use Rattle.records.specs.Refusals.{Answer, given, Tests, outcome, answer, turned}
 use Rattle.records.specs.Records.{written, room_tests}
 use Rattle.records.specs.Jobs.{job_list}
 use Rattle.records.specs.Calls.{Asked, call_tests, question}
 use Rattle.records.specs.declared.job.Job.{Job}
+use Rattle.records.specs.declared.refusal.Refusal.{Refusal}
 use Rattle.configuration.specs.declared.setting.Setting.{Setting}
 use Rattle.configuration.specs.Settings.{setting_size, setting_bytes}
 use Rattle.configuration.specs.Blocks.{settings_of, hand_in_tests}
 use Rattle.kernel.specs.declared.priority.KernelPriority.{KernelPriority}
 use Rattle.kernel.specs.declared.record.KernelRecord.{KernelRecord}
-use Rattle.kernel.specs.declared.block.KernelsRead.{KernelsRead}
+use Rattle.kernel.specs.declared.block.KernelTable.{KernelTable}
 use Rattle.kernel.specs.Priorities.{priority_tests}
 use Rattle.kernel.specs.KernelRecords.{kernel_size, kernel_bytes, kernels_in, kernel_table, to_kernel_record, to_setting}
 use Rattle.kernel.specs.KernelConfiguration.{kernel_tests}
@@ -36,9 +37,10 @@ abbrev pub kernel_block_tests : List Job → ℕ → ℕ → KernelPriority → 
 kernel_block_tests jobs low high highest kernel =
     (eqb (length kernel) (kernel_size * length jobs), 7) ∷ kernel_tests jobs low high highest (kernels_for jobs kernel)
 
--- What read_kernels answers, in 01's numbers and values: the number of records; and the table.
-abbrev pub kernels_outcome : KernelsRead → Answer ℕ × List KernelRecord
-kernels_outcome r = (counted r.answer, r.kernels)
+-- What read_kernels answers, in 01's numbers and values: the number of records; and the table, blank where there is none.
+abbrev pub kernels_outcome : Result KernelTable Refusal → Answer ℕ × List KernelRecord
+kernels_outcome (Ok kernels) = (given kernels.count, kernels.table)
+kernels_outcome (Err refusal) = turned refusal (kernel_table [])
 
 unfoldable pub read_kernels : List Job → ℕ → ℕ → KernelPriority → List ℕ → Answer ℕ × List KernelRecord
 read_kernels jobs low high highest kernel =

@@ -3,3 +3,4 @@ pub mod KernelRecords
 pub mod KernelConfiguration
 pub mod Conversions
 pub mod Promises
+pub mod RecordLaws

@@ -1,78 +1,37 @@
-// Reads and writes kernel blocks.
-ghost use Rattle.std.specs.Prelude.{◌≡◌, [], ◌/◌, min, length, take};
-ghost use Rattle.records.specs.Limits.{most_jobs};
-ghost use Rattle.records.specs.Refusals.{turned, counted};
-ghost use Rattle.records.specs.Records.{write_records};
-ghost use Rattle.kernel.specs.KernelRecords.{kernel_size, kernel_bytes, kernels_in, kernel_table};
+// Reads kernel blocks.
+ghost use Rattle.std.specs.Prelude.{◌≡◌};
+ghost use Rattle.records.specs.Jobs.{listed};
 ghost use Rattle.kernel.specs.Conversions.{kernels_outcome, read_kernels};
 
+use crate::judge;
 use crate::priority::KernelPriority;
 use crate::record::KernelRecord;
-use crate::{bytes, judge};
+use records::call::Call;
 use records::job::Job;
-use records::range::Range;
-use records::refusal::{Counted, Refusal, Verdict};
+use records::record;
+use records::refusal::Refusal;
 
-// The number of records, with the table beside it. The table is blank past the records; where the block is refused, all of it is blank.
+// The kernel records of a block: how many they are, and a table that is blank past them.
 #[derive(Clone, Copy)]
-pub struct KernelsRead {
-    pub answer: Counted,
-    pub kernels: [KernelRecord; Job::MOST],
+pub struct KernelTable {
+    pub count: usize,
+    pub table: [KernelRecord; Job::MOST],
 }
 
-fn kernels_refused(refusal: Refusal) -> KernelsRead
-    ensures { kernels_outcome result ≡ turned refusal (kernel_table []) }
-{
-    KernelsRead {
-        answer: Counted::Refused(refusal),
-        kernels: [KernelRecord::BLANK; Job::MOST],
-    }
-}
-
-// Reads a kernel block for the first n jobs of a table, a range and the highest priority. No entry; it judges the block alone (7, 8, 14, 9,
-// 10), whatever the jobs, the range and the priority are, and for n past 8 it takes all 8 jobs.
+// Reads a kernel block for a call's jobs and range and the highest priority. No entry; it judges the block alone (7, 8, 14, 9, 10), whatever
+// the jobs, the range and the priority are, and for more than 8 jobs it takes the table's 8.
 pub fn read_kernels(
-    table: [Job; Job::MOST],
-    n: usize,
-    range: Range,
+    call: Call,
     highest: KernelPriority,
     kernel: &[u8],
-) -> KernelsRead
-    ensures { kernels_outcome result ≡ read_kernels (take n table) range.low range.high highest kernel.now }
+) -> Result<KernelTable, Refusal>
+    ensures { kernels_outcome result ≡ read_kernels (listed call.jobs) call.range.low call.range.high highest kernel.now }
 {
-    let count = Job::at_most(n);
+    let count = Job::at_most(call.jobs.count);
     if kernel.len() != KernelRecord::SIZE * count {
-        return kernels_refused(Refusal::ConfigurationSize);
+        return Err(Refusal::ConfigurationSize);
     }
-    let kernels = bytes::decode(kernel, count);
-    let judged = judge::judge_kernels(table, kernels, count, range, highest);
-    if let Verdict::Refused(refusal) = judged {
-        return kernels_refused(refusal);
-    }
-    KernelsRead {
-        answer: Counted::Count(count),
-        kernels,
-    }
-}
-
-// The kernel records of a block. No entry; it judges nothing: its whole records count, as far as a table has entries, and past them it is
-// blank.
-pub fn read_unjudged(kernel: &[u8]) -> [KernelRecord; Job::MOST]
-    ensures { result ≡ kernel_table (kernels_in (min (length kernel.now / kernel_size) most_jobs) kernel.now) }
-{
-    let count = Job::at_most(kernel.len() / KernelRecord::SIZE);
-    bytes::decode(kernel, count)
-}
-
-// Writes the first n kernel records of a table. No entry; it judges the room alone (12), and for n past 8 it writes all 8 entries.
-pub fn write_kernels(kernels: [KernelRecord; Job::MOST], n: usize, output: &mut [u8]) -> Counted
-    ensures { (counted result, output.new) ≡ write_records kernel_size kernel_bytes (take n kernels) output.old }
-{
-    let count = Job::at_most(n);
-    let size = KernelRecord::SIZE * count;
-    if output.len() < size {
-        return Counted::Refused(Refusal::OutputLength);
-    }
-    bytes::encode(kernels, count, &mut *output);
-    Counted::Count(size)
+    let table = record::read(kernel);
+    judge::judge_kernels(call, table, highest)?;
+    Ok(KernelTable { count, table })
 }

@@ -6,7 +6,7 @@ ghost use Rattle.kernel.specs.Conversions.{read_loader_call};
 use crate::judge;
 use crate::priority::KernelPriority;
 use records::call::Call;
-use records::refusal::Counted;
+use records::refusal::Refusal;
 
 // Reads a job block and a range, with the priorities. No entry; it judges the three (1, 2, 3, 5, 6, 13).
 pub fn read_call(
@@ -15,13 +15,10 @@ pub fn read_call(
     high: u8,
     lowest: KernelPriority,
     highest: KernelPriority,
-) -> Call
+) -> Result<Call, Refusal>
     ensures { asked result ≡ read_loader_call jobs.now low high lowest highest }
 {
-    let call = records::call::read_call(jobs, low, high);
-    let answer = call.answer;
-    let Counted::Count(n) = answer else {
-        return call;
-    };
-    call.judged(judge::judge_priorities(n, lowest, highest))
+    let call = records::call::read_call(jobs, low, high)?;
+    judge::judge_priorities(call.jobs.count, lowest, highest)?;
+    Ok(call)
 }

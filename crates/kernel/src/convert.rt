@@ -44,10 +44,8 @@ pub fn to_kernel_records(
 {
     let count = Job::at_most(n);
     let mut kernels = [KernelRecord::BLANK; Job::MOST];
-    let mut i = 0;
-    while i < count {
+    for i in 0..count {
         kernels[i] = to_kernel_record(highest, settings[i]);
-        i += 1;
     }
     kernels
 }
@@ -62,10 +60,8 @@ pub fn to_settings(
 {
     let count = Job::at_most(n);
     let mut settings = [Setting::BLANK; Job::MOST];
-    let mut i = 0;
-    while i < count {
+    for i in 0..count {
         settings[i] = to_setting(highest, kernels[i]);
-        i += 1;
     }
     settings
 }

@@ -3,28 +3,34 @@ ghost use Rattle.std.specs.Prelude.{◌≡◌, ◌≤◌, ◌<◌, min, take};
 ghost use Rattle.sets.specs.Places.{failing};
 ghost use Rattle.records.specs.Limits.{most_jobs};
 ghost use Rattle.records.specs.Refusals.{answer, verdict};
+ghost use Rattle.records.specs.Jobs.{listed};
 ghost use Rattle.kernel.specs.Priorities.{priority_tests};
 ghost use Rattle.kernel.specs.KernelConfiguration.{on_top, sharing_priority, prioritised, kernel_ok, all_kernels_ok, kernel_tests};
 
 use crate::priority::KernelPriority;
 use crate::record::KernelRecord;
 use configuration::setting::Setting;
+use records::call::Call;
 use records::job::Job;
 use records::range::Range;
-use records::refusal::{Refusal, Verdict};
+use records::refusal::Refusal;
 
 // Judges the lowest and the highest priority for n jobs: refusal 13.
-pub(crate) fn judge_priorities(n: usize, lowest: KernelPriority, highest: KernelPriority) -> Verdict
+pub(crate) fn judge_priorities(
+    n: usize,
+    lowest: KernelPriority,
+    highest: KernelPriority,
+) -> Result<(), Refusal>
     ensures { verdict result ≡ answer (priority_tests n lowest highest) tt }
 {
     if highest.0 < lowest.0 {
-        return Verdict::Refused(Refusal::PriorityRange);
+        return Err(Refusal::PriorityRange);
     }
     let values = (highest.0 - lowest.0) as usize + 1;
     if values < n {
-        return Verdict::Refused(Refusal::PriorityRange);
+        return Err(Refusal::PriorityRange);
     }
-    Verdict::Accepted
+    Ok(())
 }
 
 // Whether a record's priority is among the top n, or its policy is 0.
@@ -47,14 +53,12 @@ fn on_priority(kernels: [KernelRecord; Job::MOST], n: usize, priority: KernelPri
     ensures { result ≡ sharing_priority n kernels priority.0 }
 {
     let mut jobs = 0;
-    let mut i = 0;
-    while i < n {
+    for i in 0..n {
         let kernel = kernels[i];
         let own = kernel.priority;
         if own.0 == priority.0 {
             jobs += 1;
         }
-        i += 1;
     }
     jobs
 }
@@ -104,64 +108,57 @@ fn kernel_ok(
     }
 }
 
-// The place of the first of the first n records of which the rule does not hold; n where it holds of each. No entry; for n past 8 it
-// takes all 8 records.
+// The place of the first of the records of a call's jobs of which the rule does not hold; their number where it holds of each. No entry;
+// for a call of more than 8 jobs it takes all 8 records.
 pub fn first_faulty(
     rule: KernelRule,
-    jobs: [Job; Job::MOST],
+    call: Call,
     kernels: [KernelRecord; Job::MOST],
-    n: usize,
-    range: Range,
     highest: KernelPriority,
 ) -> usize
-    ensures { result ≡ failing (kernel_ok rule (min n most_jobs) jobs range.low range.high highest kernels) (min n most_jobs) }
+    ensures { result ≡ failing (kernel_ok rule (min call.jobs.count most_jobs) call.jobs.table call.range.low call.range.high highest kernels) (min call.jobs.count most_jobs) }
 {
-    let count = Job::at_most(n);
-    let mut i = 0;
-    while i < count {
-        if !kernel_ok(rule, jobs, kernels, count, range, highest, i) {
+    let jobs = call.jobs.table;
+    let count = Job::at_most(call.jobs.count);
+    for i in 0..count {
+        if !kernel_ok(rule, jobs, kernels, count, call.range, highest, i) {
             return i;
         }
-        i += 1;
     }
     count
 }
 
-// Whether the rule holds of each of the first n records.
+// Whether the rule holds of each record of a call's jobs.
 fn all_ok(
     rule: KernelRule,
-    jobs: [Job; Job::MOST],
+    call: Call,
     kernels: [KernelRecord; Job::MOST],
-    n: usize,
-    range: Range,
     highest: KernelPriority,
 ) -> bool
-    ensures { result ≡ all_kernels_ok rule (take n jobs) range.low range.high highest (take n kernels) }
+    ensures { result ≡ all_kernels_ok rule (listed call.jobs) call.range.low call.range.high highest (take call.jobs.count kernels) }
 {
-    first_faulty(rule, jobs, kernels, n, range, highest) == Job::at_most(n)
+    first_faulty(rule, call, kernels, highest) == Job::at_most(call.jobs.count)
 }
 
-// Judges the first n records of a table: refusals 8, 14, 9 and 10.
+// Judges the records of a call's jobs: refusals 8, 14, 9 and 10.
 pub(crate) fn judge_kernels(
-    jobs: [Job; Job::MOST],
+    call: Call,
     kernels: [KernelRecord; Job::MOST],
-    n: usize,
-    range: Range,
     highest: KernelPriority,
-) -> Verdict
-    ensures { verdict result ≡ answer (kernel_tests (take n jobs) range.low range.high highest (take n kernels)) tt }
+) -> Result<(), Refusal>
+    ensures { verdict result ≡ answer (kernel_tests (listed call.jobs) call.range.low call.range.high highest (take call.jobs.count kernels)) tt }
 {
-    if !all_ok(KernelRule::Id, jobs, kernels, n, range, highest) {
-        return Verdict::Refused(Refusal::ConfigurationIds);
+    if !all_ok(KernelRule::Id, call, kernels, highest) {
+        return Err(Refusal::ConfigurationIds);
     }
-    if !all_ok(KernelRule::Top, jobs, kernels, n, range, highest) {
-        return Verdict::Refused(Refusal::KernelPriority);
+    if !all_ok(KernelRule::Top, call, kernels, highest) {
+        return Err(Refusal::KernelPriority);
     }
-    if !all_ok(KernelRule::Shape, jobs, kernels, n, range, highest) {
-        return Verdict::Refused(Refusal::RecordShape);
+    if !all_ok(KernelRule::Shape, call, kernels, highest) {
+        return Err(Refusal::RecordShape);
     }
-    if !all_ok(KernelRule::Sharing, jobs, kernels, n, range, highest) {
-        return Verdict::Refused(Refusal::LevelSharing);
+    if !all_ok(KernelRule::Sharing, call, kernels, highest) {
+        return Err(Refusal::LevelSharing);
     }
-    Verdict::Accepted
+    Ok(())
 }

@@ -5,10 +5,9 @@ ghost use Rattle.records.specs.Refusals.{verdict};
 ghost use Rattle.kernel.specs.Promises.{ToKernelPromise, FromKernelPromise};
 
 use priority::KernelPriority;
-use records::refusal::{Counted, Verdict};
+use records::refusal::Refusal;
 
 pub mod block;
-mod bytes;
 pub mod call;
 pub mod convert;
 pub mod judge;
@@ -24,25 +23,14 @@ pub fn to_kernel(
     highest: KernelPriority,
     configuration: &[u8],
     output: &mut [u8],
-) -> Verdict
+) -> Result<(), Refusal>
     ensures { ToKernelPromise jobs.now low high lowest highest configuration.now output.old (verdict result, output.new) }
 {
-    let call = call::read_call(jobs, low, high, lowest, highest);
-    let answer = call.answer;
-    let Counted::Count(n) = answer else {
-        return Verdict::Refused(records::refusal::refusal_of(answer));
-    };
-    let table = call.table;
-    let range = call.range;
-    let read = configuration::block::read_full(table, n, range, configuration);
-    let judged = read.answer;
-    if let Counted::Refused(refusal) = judged {
-        return Verdict::Refused(refusal);
-    }
-    let settings = read.settings;
-    let kernels = convert::to_kernel_records(settings, n, highest);
-    let wrote = block::write_kernels(kernels, n, &mut *output);
-    records::refusal::verdict_of(wrote)
+    let call = call::read_call(jobs, low, high, lowest, highest)?;
+    let settings = configuration::block::read_full(call, configuration)?;
+    let kernels = convert::to_kernel_records(settings.table, call.jobs.count, highest);
+    records::record::write(&kernels[..call.jobs.count], &mut *output)?;
+    Ok(())
 }
 
 // Converts a kernel block to a configuration block, in the output.
@@ -54,23 +42,12 @@ pub fn from_kernel(
     highest: KernelPriority,
     kernel: &[u8],
     output: &mut [u8],
-) -> Verdict
+) -> Result<(), Refusal>
     ensures { FromKernelPromise jobs.now low high lowest highest kernel.now output.old (verdict result, output.new) }
 {
-    let call = call::read_call(jobs, low, high, lowest, highest);
-    let answer = call.answer;
-    let Counted::Count(n) = answer else {
-        return Verdict::Refused(records::refusal::refusal_of(answer));
-    };
-    let table = call.table;
-    let range = call.range;
-    let read = block::read_kernels(table, n, range, highest, kernel);
-    let judged = read.answer;
-    if let Counted::Refused(refusal) = judged {
-        return Verdict::Refused(refusal);
-    }
-    let kernels = read.kernels;
-    let settings = convert::to_settings(kernels, n, highest);
-    let wrote = configuration::block::write_settings(settings, n, &mut *output);
-    records::refusal::verdict_of(wrote)
+    let call = call::read_call(jobs, low, high, lowest, highest)?;
+    let kernels = block::read_kernels(call, highest, kernel)?;
+    let settings = convert::to_settings(kernels.table, call.jobs.count, highest);
+    records::record::write(&settings[..call.jobs.count], &mut *output)?;
+    Ok(())
 }

@@ -9,7 +9,7 @@ ghost use Rattle.limits.specs.Boxes.{box_limits, limit_tests, read_limited_call}
 use records::call::Call;
 use records::job::Job;
 use records::range::Range;
-use records::refusal::{Counted, Refusal, Verdict};
+use records::refusal::Refusal;
 
 // The most jobs and the highest quantum that a box takes.
 #[derive(Clone, Copy)]
@@ -40,26 +40,23 @@ impl Limits {
 }
 
 // Judges n jobs and the highest quantum of a range by limits: refusal 15.
-fn judge_limits(limits: Limits, n: usize, high: u8) -> Verdict
+fn judge_limits(limits: Limits, n: usize, high: u8) -> Result<(), Refusal>
     ensures { verdict result ≡ answer (limit_tests limits n high) tt }
 {
     if limits.jobs < n {
-        return Verdict::Refused(Refusal::GateLimits);
+        return Err(Refusal::GateLimits);
     }
     if limits.quantum < high {
-        return Verdict::Refused(Refusal::GateLimits);
+        return Err(Refusal::GateLimits);
     }
-    Verdict::Accepted
+    Ok(())
 }
 
 // Reads a job block and a range for a box with these limits. No entry; it judges the three (1, 2, 3, 5, 6, 15).
-pub fn read_call(limits: Limits, jobs: &[u8], low: u8, high: u8) -> Call
+pub fn read_call(limits: Limits, jobs: &[u8], low: u8, high: u8) -> Result<Call, Refusal>
     ensures { asked result ≡ read_limited_call limits jobs.now low high }
 {
-    let call = records::call::read_call(jobs, low, high);
-    let answer = call.answer;
-    let Counted::Count(n) = answer else {
-        return call;
-    };
-    call.judged(judge_limits(limits, n, high))
+    let call = records::call::read_call(jobs, low, high)?;
+    judge_limits(limits, call.jobs.count, high)?;
+    Ok(call)
 }

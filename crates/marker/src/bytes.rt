@@ -21,10 +21,7 @@ pub(crate) fn encode(bounds: [u16; Job::MOST], n: usize, output: &mut [u8])
     requires { (n ≤ most_jobs) × (bound_size * n ≤ length output.old) }
     ensures { output.new ≡ written bound_size word_bytes (take n bounds) output.old }
 {
-    let mut i = 0;
-    while i < n {
-        let bound = bounds[i];
-        put_bound(&mut output[block::BOUND_SIZE * i..], bound);
-        i += 1;
+    for (i, bound) in bounds[..n].iter().enumerate() {
+        put_bound(&mut output[block::BOUND_SIZE * i..], *bound);
     }
 }

@@ -17,13 +17,15 @@ pub enum Relation {
     Above,
 }
 
-// Whether a level stands so to another; the smaller level is above.
-fn stands(relation: Relation, level: u8, to: u8) -> bool
-    ensures { result ≡ standing relation level to }
-{
-    match relation {
-        Relation::Same => level == to,
-        Relation::Above => level < to,
+impl Relation {
+    // Whether a level stands so to another; the smaller level is above.
+    fn stands(self, level: u8, to: u8) -> bool
+        ensures { result ≡ standing self level to }
+    {
+        match self {
+            Relation::Same => level == to,
+            Relation::Above => level < to,
+        }
     }
 }
 
@@ -33,14 +35,10 @@ pub fn level_set(relation: Relation, settings: [Setting; Job::MOST], n: usize, l
 {
     let count = Job::at_most(n);
     let mut set: u8 = 0;
-    let mut i = 0;
-    while i < count {
-        let setting = settings[i];
-        if stands(relation, setting.level, level) {
-            let more = sets::insert(set, i);
-            set = more;
+    for (i, setting) in settings[..count].iter().enumerate() {
+        if relation.stands(setting.level, level) {
+            set = sets::insert(set, i);
         }
-        i += 1;
     }
     set
 }
@@ -50,11 +48,8 @@ pub fn quanta_of(settings: [Setting; Job::MOST]) -> [u8; Job::MOST]
     ensures { result ≡ quanta_of settings }
 {
     let mut quanta = [0u8; Job::MOST];
-    let mut i = 0;
-    while i < Job::MOST {
-        let setting = settings[i];
+    for (i, setting) in settings.iter().enumerate() {
         quanta[i] = setting.quantum;
-        i += 1;
     }
     quanta
 }

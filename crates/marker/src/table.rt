@@ -25,10 +25,8 @@ pub fn bounds_of(
     let count = Job::at_most(n);
     let workload = Workload::plain(jobs);
     let mut bounds = [0u16; Job::MOST];
-    let mut k = 0;
-    while k < count {
+    for k in 0..count {
         bounds[k] = levels::bound_of(workload, settings, count, k);
-        k += 1;
     }
     bounds
 }
@@ -38,14 +36,7 @@ pub fn none_zero(bounds: [u16; Job::MOST], n: usize) -> bool
     ensures { result ≡ every (λ i. ltb 0 (get_or bounds i 0)) (min n most_jobs) }
 {
     let count = Job::at_most(n);
-    let mut i = 0;
-    while i < count {
-        if bounds[i] == 0 {
-            return false;
-        }
-        i += 1;
-    }
-    true
+    bounds[..count].iter().all(|bound| *bound != 0)
 }
 
 // Whether each of the first n jobs is served. No entry; it judges nothing.

@@ -57,91 +57,82 @@ fn parts_at(job: Job, count: u32, which: u8, share: u64, above: u64) -> Parts
     }
 }
 
-// The parts of the first bound.
-fn first_parts(
-    workload: Workload,
-    quanta: [u8; Job::MOST],
-    layer: u8,
-    above: u8,
-    job: usize,
-    bound: u16,
-) -> Parts
-    requires { (workload ≡ plain_workload workload.jobs) × (job < most_jobs) × (0 < bound) × (bound ≡ first_bound workload.jobs quanta (has layer) (has above) job) }
-    ensures { result ≡ first_parts workload.jobs quanta (has layer) (has above) job }
-{
-    let entry = workload.jobs[job];
-    let quantum = quanta[job];
-    let others = quanta::other_quanta(quanta, layer, job);
-    let count = workload.run(quanta, layer, above, job, bound) as u32;
-    let finish = finish_of(entry, count, bound);
-    let work = count * (entry.cost as u32);
-    let share = layer_share(work, quantum, others);
-    let from_above = demand::work_by(workload.jobs, above, finish);
-    parts_at(entry, count, 1, share, from_above)
+// A job at a place, in a layer with a set above: what its bound follows from.
+#[derive(Clone, Copy)]
+pub(crate) struct Layered {
+    pub(crate) workload: Workload,
+    pub(crate) quanta: [u8; Job::MOST],
+    pub(crate) layer: u8,
+    pub(crate) above: u8,
+    pub(crate) job: usize,
+    ghost plain: { workload ≡ plain_workload workload.jobs },
+    ghost placed: { job < most_jobs },
 }
 
-// The parts of the second bound, which is the first of the job alone with its neighbours above too.
-fn second_parts(
-    workload: Workload,
-    quanta: [u8; Job::MOST],
-    layer: u8,
-    above: u8,
-    job: usize,
-    bound: u16,
-) -> Parts
-    requires { (workload ≡ plain_workload workload.jobs) × (job < most_jobs) × (0 < bound) × (bound ≡ second_bound workload.jobs quanta (has layer) (has above) job) }
-    ensures { result ≡ second_parts workload.jobs quanta (has layer) (has above) job }
-{
-    let entry = workload.jobs[job];
-    let alone = sets::single(job);
-    let neighbours = sets::remove(layer, job);
-    let all = sets::join(above, neighbours);
-    let count = workload.run(quanta, alone, all, job, bound) as u32;
-    let finish = finish_of(entry, count, bound);
-    let beside = demand::work_by(workload.jobs, neighbours, finish);
-    let above_alone = demand::work_by(workload.jobs, above, finish);
-    parts_at(entry, count, 2, beside, above_alone)
-}
+impl Layered {
+    // The parts of the first bound.
+    fn first_parts(&self, bound: u16) -> Parts
+        requires { (0 < bound) × (bound ≡ first_bound self.now.workload.jobs self.now.quanta (has self.now.layer) (has self.now.above) self.now.job) }
+        ensures { result ≡ first_parts self.now.workload.jobs self.now.quanta (has self.now.layer) (has self.now.above) self.now.job }
+    {
+        let workload = self.workload;
+        let entry = workload.jobs[self.job];
+        let quantum = self.quanta[self.job];
+        let others = quanta::other_quanta(self.quanta, self.layer, self.job);
+        let count = workload.run(self.quanta, self.layer, self.above, self.job, bound) as u32;
+        let finish = finish_of(entry, count, bound);
+        let work = count * (entry.cost as u32);
+        let share = layer_share(work, quantum, others);
+        let from_above = demand::work_by(workload.jobs, self.above, finish);
+        parts_at(entry, count, 1, share, from_above)
+    }
 
-// The second bound of a job, from its first, which it is without neighbours.
-fn second_bound(
-    workload: Workload,
-    quanta: [u8; Job::MOST],
-    above: u8,
-    neighbours: u8,
-    job: usize,
-    first: u16,
-) -> u16
-    ensures { result ≡ cond (eqb neighbours 0) first (one_bound (record { jobs = workload.jobs; utilisations = workload.utilisations; unassignable = workload.unassignable; sought = 0 }) quanta (has (single job)) (has (join above neighbours)) job) }
-{
-    if neighbours == 0 {
-        return first;
+    // The parts of the second bound, which is the first of the job alone with its neighbours above too.
+    fn second_parts(&self, bound: u16) -> Parts
+        requires { (0 < bound) × (bound ≡ second_bound self.now.workload.jobs self.now.quanta (has self.now.layer) (has self.now.above) self.now.job) }
+        ensures { result ≡ second_parts self.now.workload.jobs self.now.quanta (has self.now.layer) (has self.now.above) self.now.job }
+    {
+        let workload = self.workload;
+        let above = self.above;
+        let entry = workload.jobs[self.job];
+        let alone = sets::single(self.job);
+        let neighbours = sets::remove(self.layer, self.job);
+        let all = sets::join(above, neighbours);
+        let count = workload.run(self.quanta, alone, all, self.job, bound) as u32;
+        let finish = finish_of(entry, count, bound);
+        let beside = demand::work_by(workload.jobs, neighbours, finish);
+        let above_alone = demand::work_by(workload.jobs, above, finish);
+        parts_at(entry, count, 2, beside, above_alone)
     }
-    let alone = sets::single(job);
-    let all = sets::join(above, neighbours);
-    workload.run(quanta, alone, all, job, 0)
-}
 
-// The parts of the bound of the job at a place, in a layer with a set above.
-pub(crate) fn parts_of(
-    workload: Workload,
-    quanta: [u8; Job::MOST],
-    layer: u8,
-    above: u8,
-    job: usize,
-) -> Parts
-    requires { (workload ≡ plain_workload workload.jobs) × (job < most_jobs) }
-    ensures { result ≡ parts workload.jobs quanta (has layer) (has above) job }
-{
-    let neighbours = sets::remove(layer, job);
-    let first = workload.run(quanta, layer, above, job, 0);
-    let second = second_bound(workload, quanta, above, neighbours, job, first);
-    let bound = workload::lesser(first, second);
-    if bound == 0 {
-        return Parts::NONE;
+    // The second bound, from the first, which it is without neighbours.
+    fn second_bound(&self, neighbours: u8, first: u16) -> u16
+        ensures { result ≡ cond (eqb neighbours 0) first (one_bound (record { jobs = self.now.workload.jobs; utilisations = self.now.workload.utilisations; unassignable = self.now.workload.unassignable; sought = 0 }) self.now.quanta (has (single self.now.job)) (has (join self.now.above neighbours)) self.now.job) }
+    {
+        if neighbours == 0 {
+            return first;
+        }
+        let alone = sets::single(self.job);
+        let all = sets::join(self.above, neighbours);
+        self.workload.run(self.quanta, alone, all, self.job, 0)
     }
-    if bound == first {
-        return first_parts(workload, quanta, layer, above, job, bound);
+
+    // The parts of the bound.
+    pub(crate) fn parts(&self) -> Parts
+        ensures { result ≡ parts self.now.workload.jobs self.now.quanta (has self.now.layer) (has self.now.above) self.now.job }
+    {
+        let neighbours = sets::remove(self.layer, self.job);
+        let first = self
+            .workload
+            .run(self.quanta, self.layer, self.above, self.job, 0);
+        let second = self.second_bound(neighbours, first);
+        let bound = workload::lesser(first, second);
+        if bound == 0 {
+            return Parts::NONE;
+        }
+        if bound == first {
+            return self.first_parts(bound);
+        }
+        self.second_parts(bound)
     }
-    second_parts(workload, quanta, layer, above, job, bound)
 }

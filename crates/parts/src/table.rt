@@ -7,6 +7,7 @@ ghost use Rattle.response.specs.Breakdown.{no_parts};
 ghost use Rattle.search.specs.Search.{plain_workload};
 ghost use Rattle.parts.specs.Breakdowns.{parts_in, breakdown_of};
 
+use crate::Layered;
 use configuration::setting::Setting;
 use marker::levels;
 use marker::levels::Relation;
@@ -26,8 +27,14 @@ fn parts_in(workload: Workload, settings: [Setting; Job::MOST], n: usize, k: usi
     }
     let layer = levels::level_set(Relation::Same, settings, n, level);
     let above = levels::level_set(Relation::Above, settings, n, level);
-    let quanta = levels::quanta_of(settings);
-    crate::parts_of(workload, quanta, layer, above, k)
+    let layered = Layered {
+        workload,
+        quanta: levels::quanta_of(settings),
+        layer,
+        above,
+        job: k,
+    };
+    layered.parts()
 }
 
 // The parts of the bounds of the first n jobs. No entry; it judges nothing: any jobs and settings have those that the definition gives.
@@ -41,10 +48,8 @@ pub fn breakdown_of(
     let count = Job::at_most(n);
     let workload = Workload::plain(jobs);
     let mut parts = [Parts::NONE; Job::MOST];
-    let mut k = 0;
-    while k < count {
+    for k in 0..count {
         parts[k] = parts_in(workload, settings, count, k);
-        k += 1;
     }
     parts
 }

@@ -14,10 +14,8 @@ fn add_job(sums: &mut [u32], half: usize, period: u32)
     requires { (half + half ≤ length sums.old) × ((s : ℕ) → s < half → get_or sums.old s 0 + period < 2 ^ 32) }
     ensures { Doubled half period sums.old sums.new }
 {
-    let mut set = 0;
-    while set < half {
+    for set in 0..half {
         sums[half + set] = sums[set] + period;
-        set += 1;
     }
 }
 
@@ -27,15 +25,9 @@ pub fn sums_of(jobs: [Job; Job::MOST], n: usize) -> [u32; ALL]
 {
     let mut sums = [0u32; ALL];
     let mut half = 1;
-    let mut k = 0;
-    while k < n {
-        if Job::MOST <= k {
-            return sums;
-        }
-        let job = jobs[k];
+    for job in &jobs[..Job::at_most(n)] {
         add_job(&mut sums, half, job.period as u32);
-        half = 2 * half;
-        k += 1;
+        half *= 2;
     }
     sums
 }

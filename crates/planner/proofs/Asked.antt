@@ -6,7 +6,7 @@ use Rattle.sets.specs.Places.{list_of}
 use Rattle.sets.proofs.Places.{list_at, list_length}
 use mathlib.Core.Path.{◌≡◌, sym, ap, ◌∙◌}
 use mathlib.Core.List.{List}
-use mathlib.Core.Option.{Option, none, some}
+use mathlib.Core.Option.{none, some}
 use native.Mathlib.Omega.{arith}
 use lib.ListN.{length, get_or, take, get_or-eq_default}
 use lib.Seq.{get_or-take, length-take-le}
@@ -26,7 +26,8 @@ use Rattle.assignment.specs.Layers.{Hopeless, Settles}
 use Rattle.assignment.proofs.Serving.{Costs}
 use Rattle.assignment.proofs.Settling.{lowest-stands, says-smallest}
 use Rattle.planner.specs.declared.quanta.Question.{Question}
-use Rattle.planner.specs.Questions.{listed, lowest_quanta, Accepted, Laid, Pending}
+use Rattle.std.specs.Prelude.{Option as Maybe, None, Some}
+use Rattle.planner.specs.Questions.{listed, lowest_quanta, Accepted, Laid, Pending, offered}
 
 module _ (question : Question) (A : Accepted question) where
   pub listed-length : length (listed question) ≡ question.n
@@ -82,14 +83,15 @@ module _ (question : Question) (A : Accepted question) (left set : ℕ) (left_le
             (λ i l. has-high question.n set i set-less (omega (arith, listed-length question A)));
       }
 
-    -- What settling comes to.
-    pub ends : (v : List ℕ) (b : Bool) (u : List ℕ) → Settles (listed question) question.range.low question.range.high (has set) (has above) (has set) v b u
-        → cond {A = Option (List ℕ)} b (some (take question.n u)) none ≡ quanta_for (listed question) question.range.low question.range.high left set
-    unfolding quanta_by
-    ends v b u S =
-        ap (λ (n : ℕ). cond {A = Option (List ℕ)} b (some (take n u)) none) (sym (listed-length question A))
-        ∙ rw (← is) (says-smallest (listed question) (listed-costs question A) question.range.low question.range.high A.low (has set) (has above) v b u S)
-
     pub out : Hopeless (listed question) question.range.low question.range.high (has set) (has above) → quanta_for (listed question) question.range.low question.range.high left set ≡ none
     unfolding quanta_by
     out h = rw (← is) h
+
+    -- What settling comes to.
+    pub ends : (v : List ℕ) (r : Maybe (List ℕ)) → Settles (listed question) question.range.low question.range.high (has set) (has above) (has set) v r
+        → offered question.n r ≡ quanta_for (listed question) question.range.low question.range.high left set
+    unfolding quanta_by
+    ends v None h = sym (out h)
+    ends v (Some u) S =
+        ap (λ (n : ℕ). some (take n u)) (sym (listed-length question A))
+        ∙ rw (← is) (says-smallest (listed question) (listed-costs question A) question.range.low question.range.high A.low (has set) (has above) v u S)

@@ -1,5 +1,5 @@
 -- What the planner's functions are asked, and how their answers are read. Assumes nothing.
-use Rattle.std.specs.Prelude.{ℕ, ◌^◌, ◌≤◌, ◌<◌, ◌≡◌, true, cond, List, length, take}
+use Rattle.std.specs.Prelude.{Option as Maybe, None, Some, ℕ, ◌^◌, ◌≤◌, ◌<◌, ◌≡◌, true, cond, List, length, take}
 use Rattle.std.proofs.Math.Option.{Option, none, some}
 use Rattle.sets.specs.Places.{list_of}
 use Rattle.sets.specs.Sets.{Set, has, within}
@@ -13,7 +13,6 @@ use Rattle.assignment.specs.Plan.{quanta_for}
 use Rattle.planner.specs.declared.quanta.Question.{Question}
 use Rattle.planner.specs.declared.quanta.QuantaSearch.{QuantaSearch}
 use Rattle.planner.specs.declared.quanta.QuantaSearch.TheVariants.{PerJob}
-use Rattle.planner.specs.declared.quanta.Quanta.{Quanta}
 
 -- The list of jobs.
 abbrev pub listed : Question → List Job
@@ -60,5 +59,6 @@ pub record Pending (question : Question) (layer above pending : ℕ) (quanta : L
   pub standing : Standing (listed question) question.range.low question.range.high (has layer) (has above) quanta
 
 -- The quanta of n jobs, or none.
-abbrev pub offered : ℕ → Quanta → Option (List ℕ)
-offered n r = cond r.found (some (take n r.quanta)) none
+abbrev pub offered : ℕ → Maybe (List ℕ) → Option (List ℕ)
+offered n (Some quanta) = some (take n quanta)
+offered n None = none

@@ -8,7 +8,6 @@ use crate::quanta;
 use crate::quanta::Question;
 use periods::sums::ALL;
 use records::job::Job;
-use sets::order::Next;
 
 // The first set that can be taken, with its quanta, and the number of sets considered; the set is 0 where none can be taken.
 #[derive(Clone, Copy)]
@@ -19,25 +18,16 @@ pub struct Choice {
 }
 
 // Goes through the subsets of the jobs left, in the order of the sequence.
-fn first_of(question: Question, sequence: &[u8], left: u8) -> Choice
-    requires { Accepted question × (left < 2 ^ question.n) × (length sequence.now ≤ most_sets) }
-    ensures { Chosen question sequence.now left result }
+fn first_of(question: &Question, sequence: &[u8], left: u8) -> Choice
+    requires { Accepted question.now × (left < 2 ^ question.now.n) × (length sequence.now ≤ most_sets) }
+    ensures { Chosen question.now sequence.now left result }
 {
     let mut place = 0;
     let mut missed: u16 = 0;
-    loop {
-        let next = sets::order::next_subset(sequence, left, place);
-        let Next::At(at) = next else {
-            return Choice {
-                set: 0,
-                quanta: [0u8; Job::MOST],
-                considered: missed,
-            };
-        };
+    while let Some(at) = sets::order::next_subset(sequence, left, place) {
         let set = sequence[at];
-        let answer = quanta::quanta_for(question, left, set);
-        if answer.found {
-            let quanta = answer.quanta;
+        let found = quanta::quanta_for(question, left, set);
+        if let Some(quanta) = found {
             let considered = missed + 1;
             return Choice {
                 set,
@@ -48,13 +38,18 @@ fn first_of(question: Question, sequence: &[u8], left: u8) -> Choice
         missed += 1;
         place = at + 1;
     }
+    Choice {
+        set: 0,
+        quanta: [0u8; Job::MOST],
+        considered: missed,
+    }
 }
 
 // Goes through the subsets of the jobs left, size by size, each size by larger sum of periods, then by smaller number. The sets of one job
 // are given in their order; those of a larger size are put in order when it is reached.
-pub(crate) fn choose(question: Question, sums: &[u32; ALL], singles: &[u8], left: u8) -> Choice
-    requires { Accepted question × (left < 2 ^ question.n) × Sorted question sums.now singles.now }
-    ensures { Chosen question (by_periods (listed question)) left result }
+pub(crate) fn choose(question: &Question, sums: &[u32; ALL], singles: &[u8], left: u8) -> Choice
+    requires { Accepted question.now × (left < 2 ^ question.now.n) × Sorted question.now sums.now singles.now }
+    ensures { Chosen question.now (by_periods (listed question.now)) left result }
 {
     let alone = first_of(question, singles, left);
     if alone.set != 0 {
@@ -62,20 +57,16 @@ pub(crate) fn choose(question: Question, sums: &[u32; ALL], singles: &[u8], left
     }
     let most = sets::size(left) as usize;
     let mut missed = alone.considered;
-    let mut size = 1;
-    while size < most {
-        size += 1;
+    for size in 2..=most {
         let found = periods::subsets::subsets_of(sums, left, size);
         let tried = found.sets;
         let count = found.count;
         let choice = first_of(question, &tried[..count], left);
         missed += choice.considered;
         if choice.set != 0 {
-            let quanta = choice.quanta;
             return Choice {
-                set: choice.set,
-                quanta,
                 considered: missed,
+                ..choice
             };
         }
     }

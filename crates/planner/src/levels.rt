@@ -49,61 +49,56 @@ fn setting_in(id: u8, level: u8, size: u32, quantum: u8) -> Setting
 
 // The settings when a set takes a level: its jobs take that level and their quanta, the others keep their settings.
 fn settings_with(
-    question: Question,
+    question: &Question,
     settings: [Setting; Job::MOST],
     level: u8,
     set: u8,
     quanta: [u8; Job::MOST],
 ) -> [Setting; Job::MOST]
-    requires { Accepted question }
-    ensures { result ≡ setting_table (settings_with question settings level set quanta) }
+    requires { Accepted question.now }
+    ensures { result ≡ setting_table (settings_with question.now settings level set quanta) }
 {
     let workload = question.workload;
     let jobs = workload.jobs;
     let size = sets::size(set);
     let mut next = [Setting::BLANK; Job::MOST];
-    let mut k = 0;
-    while k < question.n {
-        let job = jobs[k];
+    for k in 0..question.n {
         next[k] = if sets::contains(set, k) {
-            setting_in(job.id, level, size, quanta[k])
+            setting_in(jobs[k].id, level, size, quanta[k])
         } else {
             settings[k]
         };
-        k += 1;
     }
     next
 }
 
 // The bounds when a set takes a level with another above: its jobs get theirs, the others keep what they have.
 fn bounds_with(
-    question: Question,
+    question: &Question,
     bounds: [u16; Job::MOST],
     set: u8,
     above: u8,
     quanta: [u8; Job::MOST],
 ) -> [u16; Job::MOST]
-    requires { Laid question set above }
-    ensures { result ≡ table most_jobs 0 (bounds_with question bounds set above quanta) }
+    requires { Laid question.now set above }
+    ensures { result ≡ table most_jobs 0 (bounds_with question.now bounds set above quanta) }
 {
     let workload = question.workload;
     let mut next = [0u16; Job::MOST];
-    let mut k = 0;
-    while k < question.n {
+    for k in 0..question.n {
         next[k] = if sets::contains(set, k) {
             workload.bound(quanta, set, above, k)
         } else {
             bounds[k]
         };
-        k += 1;
     }
     next
 }
 
 // The set that was chosen takes the level.
-fn place(question: Question, progress: Progress, level: u8, choice: Choice) -> Progress
-    requires { Accepted question × (progress.left < 2 ^ question.n) × (choice.set < 2 ^ question.n) × (progress.considered + choice.considered < 2 ^ 16) }
-    ensures { result ≡ progress_of (place_of (listed question) level choice.set (take question.n choice.quanta) (stage_of progress)) (progress.considered + choice.considered) }
+fn place(question: &Question, progress: Progress, level: u8, choice: Choice) -> Progress
+    requires { Accepted question.now × (progress.left < 2 ^ question.now.n) × (choice.set < 2 ^ question.now.n) × (progress.considered + choice.considered < 2 ^ 16) }
+    ensures { result ≡ progress_of (place_of (listed question.now) level choice.set (take question.now.n choice.quanta) (stage_of progress)) (progress.considered + choice.considered) }
 {
     let set = choice.set;
     let quanta = choice.quanta;
@@ -121,23 +116,20 @@ fn place(question: Question, progress: Progress, level: u8, choice: Choice) -> P
 }
 
 // No job is placed.
-fn start(question: Question) -> Progress
-    requires { Accepted question }
-    ensures { result ≡ progress_of (start_of (listed question)) 0 }
+fn start(question: &Question) -> Progress
+    requires { Accepted question.now }
+    ensures { result ≡ progress_of (start_of (listed question.now)) 0 }
 {
     let workload = question.workload;
     let jobs = workload.jobs;
     let mut settings = [Setting::BLANK; Job::MOST];
-    let mut k = 0;
-    while k < question.n {
-        let job = jobs[k];
+    for (k, job) in jobs[..question.n].iter().enumerate() {
         settings[k] = Setting {
             id: job.id,
             level: 0,
             policy: Setting::NOT_PLACED,
             quantum: 0,
         };
-        k += 1;
     }
     Progress {
         left: sets::first_jobs(question.n),
@@ -152,16 +144,14 @@ pub(crate) fn plan_levels(question: Question, sums: &[u32; ALL], singles: &[u8])
     requires { Accepted question × Sorted question sums.now singles.now }
     ensures { result ≡ progress_of (last_stage question (by_periods (listed question))) (count_all question (by_periods (listed question))) }
 {
-    let mut progress = start(question);
-    let mut level = question.n;
-    while 0 < level {
-        let choice = choice::choose(question, sums, singles, progress.left);
+    let mut progress = start(&question);
+    for level in (1..=question.n).rev() {
+        let choice = choice::choose(&question, sums, singles, progress.left);
         if choice.set == 0 {
             progress.considered += choice.considered;
             return progress;
         }
-        progress = place(question, progress, level as u8, choice);
-        level -= 1;
+        progress = place(&question, progress, level as u8, choice);
     }
     progress
 }

@@ -24,34 +24,24 @@ pub struct Question {
     pub search: QuantaSearch,
 }
 
-// The quanta of a layer, where there are such.
-#[derive(Clone, Copy)]
-pub struct Quanta {
-    pub found: bool,
-    pub quanta: [u8; Job::MOST],
-}
-
 // The lowest quantum for each job of a set, 0 for the others.
 fn lowest_quanta(set: u8, low: u8) -> [u8; Job::MOST]
     ensures { result ≡ lowest_quanta low (has set) }
 {
     let mut quanta = [0u8; Job::MOST];
-    let mut i = 0;
-    while i < Job::MOST {
-        quanta[i] = if sets::contains(set, i) { low } else { 0 };
-        i += 1;
+    for (i, quantum) in quanta.iter_mut().enumerate() {
+        *quantum = if sets::contains(set, i) { low } else { 0 };
     }
     quanta
 }
 
 // Whether each job of a layer is served with the highest quantum beside the lowest of the others.
-fn is_within_reach(question: Question, layer: u8, above: u8, quanta: [u8; Job::MOST]) -> bool
-    requires { Laid question layer above × (quanta ≡ lowest_quanta question.range.low (has layer)) }
-    ensures { result ≡ false → Hopeless (listed question) question.range.low question.range.high (has layer) (has above) }
+fn is_within_reach(question: &Question, layer: u8, above: u8, quanta: [u8; Job::MOST]) -> bool
+    requires { Laid question.now layer above × (quanta ≡ lowest_quanta question.now.range.low (has layer)) }
+    ensures { result ≡ false → Hopeless (listed question.now) question.now.range.low question.now.range.high (has layer) (has above) }
 {
     let workload = question.workload;
-    let mut job = 0;
-    while job < question.n {
+    for job in 0..question.n {
         if sets::contains(layer, job) {
             let range = question.range;
             let mut highest = quanta;
@@ -60,90 +50,78 @@ fn is_within_reach(question: Question, layer: u8, above: u8, quanta: [u8; Job::M
                 return false;
             }
         }
-        job += 1;
     }
     true
 }
 
-// Raises the quantum of a job until it is served beside the quanta of the others.
-fn raise(question: Question, layer: u8, above: u8, quanta: [u8; Job::MOST], job: usize) -> Quanta
-    requires { Laid question layer above × Standing (listed question) question.range.low question.range.high (has layer) (has above) quanta × (job < question.n) × (has layer job ≡ true) }
-    ensures { Raises (listed question) question.range.low question.range.high (has layer) (has above) job quanta result.found result.quanta }
+// Raises the quantum of a job until it is served beside the quanta of the others; none where the highest does not serve it.
+fn raise(
+    question: &Question,
+    layer: u8,
+    above: u8,
+    quanta: [u8; Job::MOST],
+    job: usize,
+) -> Option<[u8; Job::MOST]>
+    requires { Laid question.now layer above × Standing (listed question.now) question.now.range.low question.now.range.high (has layer) (has above) quanta × (job < question.now.n) × (has layer job ≡ true) }
+    ensures { Raises (listed question.now) question.now.range.low question.now.range.high (has layer) (has above) job quanta result }
 {
     let workload = question.workload;
+    let range = question.range;
     let mut now = quanta;
-    loop {
-        if 0 < workload.bound(now, layer, above, job) {
-            return Quanta {
-                found: true,
-                quanta: now,
-            };
+    while workload.bound(now, layer, above, job) == 0 {
+        if range.high <= now[job] {
+            return None;
         }
-        let quantum = now[job];
-        let range = question.range;
-        if range.high <= quantum {
-            return Quanta {
-                found: false,
-                quanta: now,
-            };
-        }
-        now[job] = quantum + 1;
+        now[job] += 1;
     }
+    Some(now)
 }
 
 // Settles the pending jobs of a layer: the first of them takes the smallest quantum with which it is served, the jobs after it being
 // settled again, from where they stood, whenever it rises.
-fn settle(question: Question, layer: u8, above: u8, pending: u8, quanta: [u8; Job::MOST]) -> Quanta
-    requires { Pending question layer above pending quanta }
-    ensures { Settles (listed question) question.range.low question.range.high (has layer) (has above) (has pending) quanta result.found result.quanta }
+fn settle(
+    question: &Question,
+    layer: u8,
+    above: u8,
+    pending: u8,
+    quanta: [u8; Job::MOST],
+) -> Option<[u8; Job::MOST]>
+    requires { Pending question.now layer above pending quanta }
+    ensures { Settles (listed question.now) question.now.range.low question.now.range.high (has layer) (has above) (has pending) quanta result }
 {
     if pending == 0 {
-        return Quanta {
-            found: true,
-            quanta,
-        };
+        return Some(quanta);
     }
     let job = sets::lowest(pending);
     let after = sets::remove(pending, job);
     let mut now = quanta;
     loop {
-        let settled = settle(question, layer, above, after, now);
-        if !settled.found {
-            return settled;
-        }
-        let stood = settled.quanta;
-        let raised = raise(question, layer, above, stood, job);
-        if !raised.found {
-            return raised;
-        }
-        now = raised.quanta;
+        let stood = settle(question, layer, above, after, now)?;
+        now = raise(question, layer, above, stood, job)?;
         if now[job] == stood[job] {
-            return settled;
+            return Some(stood);
         }
     }
 }
 
 // The quanta with which a set of the jobs left can be taken, the rest of them above, each job having one of its own.
-fn quanta_per_job(question: Question, left: u8, set: u8) -> Quanta
-    requires { Accepted question × (left < 2 ^ question.n) × (set < 2 ^ question.n) }
-    ensures { offered question.n result ≡ quanta_for (listed question) question.range.low question.range.high left set }
+fn quanta_per_job(question: &Question, left: u8, set: u8) -> Option<[u8; Job::MOST]>
+    requires { Accepted question.now × (left < 2 ^ question.now.n) × (set < 2 ^ question.now.n) }
+    ensures { offered question.now.n result ≡ quanta_for (listed question.now) question.now.range.low question.now.range.high left set }
 {
     let above = sets::rest(left, set);
     let range = question.range;
     let quanta = lowest_quanta(set, range.low);
     if !is_within_reach(question, set, above, quanta) {
-        return Quanta {
-            found: false,
-            quanta,
-        };
+        return None;
     }
     settle(question, set, above, set, quanta)
 }
 
 // The quanta with which a set of the jobs left can be taken, by the search that is asked for.
-pub(crate) fn quanta_for(question: Question, left: u8, set: u8) -> Quanta
-    requires { Accepted question × (left < 2 ^ question.n) × (set < 2 ^ question.n) }
-    ensures { offered question.n result ≡ finds question left set }
+pub(crate) fn quanta_for(question: &Question, left: u8, set: u8) -> Option<[u8; Job::MOST]>
+    requires { Accepted question.now × (left < 2 ^ question.now.n) × (set < 2 ^ question.now.n) }
+    ensures { offered question.now.n result ≡ finds question.now left set }
 {
     match question.search {
         QuantaSearch::PerJob => quanta_per_job(question, left, set),

@@ -6,11 +6,10 @@ use mathlib.Core.List.{List, [], ◌∷◌}
 use lib.Dec.{eqb}
 use lib.ListN.{length, take}
 use borrow.Author.Tests.{eq-eqb, ne_eqb}
+use Rattle.std.specs.Prelude.{Result, Ok, Err}
 use Rattle.records.specs.Refusals.{Answer, refused, given, number, Tests, outcome, answer, verdict}
 use Rattle.records.specs.Records.{chunks, table}
 use Rattle.records.specs.declared.refusal.Refusal.{Refusal}
-use Rattle.records.specs.declared.refusal.Verdict.{Verdict}
-use Rattle.records.specs.declared.refusal.Verdict.TheVariants.{Accepted, Refused as NotAccepted}
 use Rattle.records.proofs.Outcomes.{refuses-alike, gives-alike}
 use Rattle.records.proofs.FixedWidth.{length-chunks, take-table}
 
@@ -29,7 +28,7 @@ module _ {A : Type 0} (w : ℕ) (read : List ℕ → A) (blank : A) (k m : ℕ) 
   block_size other = sym (simp (ne_eqb (length block) (w * m) (λ e. other (e ∙ ap (λ (n : ℕ). w * n) size))))
 
   -- Past refusal 7: what was judged are the records of the block.
-  module _ (whole : length block ≡ w * count) (decoded : List A) (made : decoded ≡ table k blank (chunks w read count block)) (v : Verdict)
+  module _ (whole : length block ≡ w * count) (decoded : List A) (made : decoded ≡ table k blank (chunks w read count block)) (v : Result (Unit {0}) Refusal)
       (judged : verdict v ≡ answer (tests (take count decoded)) tt)
     where
       past-size : reading ≡ outcome (tests records) m (table k blank records) none
@@ -44,10 +43,10 @@ module _ {A : Type 0} (w : ℕ) (read : List ℕ → A) (blank : A) (k m : ℕ) 
           ∙ ap (λ (l : List A). answer (tests l) tt)
           (ap (take count) made ∙ take-table k blank count (chunks w read count block) (length-chunks w read count block) ∙ counted)
 
-      pub block-turned : (refusal : Refusal) → v ≡ NotAccepted refusal → (refused (number refusal), none) ≡ reading
+      pub block-turned : (refusal : Refusal) → v ≡ Err refusal → (refused (number refusal), none) ≡ reading
       block-turned refusal e = sym (past-size ∙ refuses-alike (tests records) tt tt tt m (table k blank records) none (number refusal) (sym saw ∙ ap verdict e))
 
-      pub block_read : v ≡ Accepted → (given count, decoded) ≡ reading
-      block_read e =
+      pub block_read : (u : Unit {0}) → v ≡ Ok u → (given count, decoded) ≡ reading
+      block_read u e =
           ap₂ (λ (n : ℕ) (t : List A). (given n, t)) (sym size) (made ∙ ap (table k blank) counted)
           ∙ sym (past-size ∙ gives-alike (tests records) tt tt tt m (table k blank records) none tt (sym saw ∙ ap verdict e))

@@ -2,20 +2,22 @@
 -- of one record. They hold for every kind of record and every width. Assumes nothing.
 use Prim.Native.Nat.{ℕ, zero, suc, ◌+◌, ◌-◌, ◌*◌, ◌/◌, ◌%◌, min, ◌≤◌, ◌<◌}
 use mathlib.Core.Path.{◌≡◌, refl, sym, ap, ap₂, ◌∙◌}
-use mathlib.Core.List.{List, [], ◌∷◌, ◌++◌, append_assoc, append-nil}
+use mathlib.Core.List.{List, [], ◌∷◌, ◌++◌, map, append_assoc, append-nil}
+use Rattle.std.specs.Simd.{first_chunks}
 use native.Mathlib.Numerals.{add-one}
+use Rattle.std.proofs.Math.Nat.{mul-le-mul_left}
 use native.Mathlib.Nat.{mul-suc, mul-zero, add_comm}
 use native.Mathlib.Decide.{dec_le}
 use native.Mathlib.Omega.{arith}
+use borrow.Rule.Slice.PartMut.{put_mid}
 use lib.ListN.{length, get_or, take, drop, set, replicate, length-append, length-take, length-drop, drop_of_length-le, get_or-eq_default, length-replicate}
 use lib.Seq.{ext_get_or, drop-cons, drop-drop, set_at, append_snoc, take_all, take_at, drop_at, take-suc, take-add, length-take-le}
 use borrow.Author.Tests.{lt-leb, le-leb, leb-true}
 use Rattle.sets.specs.Places.{list_of}
 use Rattle.sets.proofs.Places.{list-suc, list_length, list_at}
-use Rattle.records.specs.Refusals.{Answer, refused, given, number, outcome, verdict, counted, verdict_of}
-use Rattle.records.specs.declared.refusal.Verdict.{Verdict}
-use Rattle.records.specs.declared.refusal.Counted.{Counted}
-use Rattle.records.specs.declared.refusal.Counted.TheVariants.{Count, Refused}
+use Rattle.std.specs.Prelude.{Result, Ok, Err}
+use Rattle.records.specs.Refusals.{Answer, refused, given, number, Tests, outcome, counted}
+use Rattle.records.specs.declared.refusal.Refusal.{Refusal}
 use Rattle.records.specs.Records.{word, word_of, word_bytes, long_bytes, flat, chunks, table, written, room_tests, write_records}
 use Rattle.records.proofs.Outcomes.{accepts, keeps, gives, refuses-alike}
 
@@ -38,6 +40,16 @@ pub length-chunks : {A : Type 0} (w : ℕ) (read : List ℕ → A) (n : ℕ) (s 
 unfolding chunks
 length-chunks w read zero s = refl
 length-chunks w read (suc n) s = ap suc (length-chunks w read n (drop w s))
+
+-- The records of the parts of w bytes that a block begins with.
+pub chunks-parts : {A : Type 0} (w : ℕ) (read : List ℕ → A) → ((s : List ℕ) → w ≤ length s → read (take w s) ≡ read s) → (i k : ℕ) (s : List ℕ) → i ≤ k → w * k ≤ length s
+    → map read (take i (first_chunks w k s)) ≡ chunks w read i s
+unfolding chunks
+chunks-parts w read own zero k s l h = refl
+chunks-parts w read own (suc i) zero s l h = absurd (omega arith)
+chunks-parts {A} w read own (suc i) (suc k) s l h =
+    let more : w * suc k ≡ w * k + w = mul-suc w k in
+    ap₂ (λ (x : A) (xs : List A). x ∷ xs) (own s (omega (arith, more))) (chunks-parts w read own i k (drop w s) (omega arith) (simp length-drop (omega (arith, more))))
 
 chunks-snoc : {A : Type 0} (w : ℕ) (read : List ℕ → A) (n : ℕ) (s : List ℕ) → chunks w read (n + 1) s ≡ chunks w read n s ++ (read (drop (w * n) s) ∷ [])
 unfolding chunks
@@ -145,6 +157,22 @@ write-next bytes w h i t z d out ys k e g =
     rw (add-one i, take-suc t i z k, flat-snoc bytes (take i t) (get_or t i z), mul-suc w i)
     (put-after (flat bytes (take i t)) (bytes (get_or t i z)) d (w * i) w lp out e ys g)
 
+-- The same through the part of w bytes that the record stands in.
+pub write-on : {A : Type 0} (bytes : A → List ℕ) (w : ℕ) → ((a : A) → length (bytes a) ≡ w) → (i : ℕ) (t : List A) (z : A) (d out : List ℕ) (k : ℕ) → i < length t
+    → out ≡ flat bytes (take i t) ++ drop (w * i) d → k ≡ w → put_mid (w * i) k out (bytes (get_or t i z)) ≡ flat bytes (take (i + 1) t) ++ drop (w * (i + 1)) d
+write-on bytes w h i t z d out k l e same =
+    let n : length (take i t) ≡ i = length-take-le i t (omega arith) in
+    let lp : length (flat bytes (take i t)) ≡ w * i = length-flat bytes w h (take i t) ∙ ap (λ (m : ℕ). w * m) n in
+    let p = flat bytes (take i t) in
+    let v = bytes (get_or t i z) in
+    let da : drop (w * i) out ≡ drop (w * i) d = rw e (drop_at p (drop (w * i) d) (w * i) lp) in
+    let ta : take (w * i) out ≡ p = rw e (take_at p (drop (w * i) d) (w * i) lp) in
+    rw (add-one i, take-suc t i z l, flat-snoc bytes (take i t) (get_or t i z), mul-suc w i)
+    (ap (λ (m : ℕ). put_mid (w * i) m out v) same
+    ∙ ap₂ (λ (x y : List ℕ). x ++ (v ++ drop w y)) ta da
+    ∙ ap (λ (x : List ℕ). p ++ (v ++ x)) (drop-drop w (w * i) d)
+    ∙ sym (append_assoc p v (drop (w * i + w) d)))
+
 -- All records are written.
 pub written_at : {A : Type 0} (w : ℕ) (bytes : A → List ℕ) (xs : List A) (n : ℕ) (output : List ℕ) → length xs ≡ n → flat bytes xs ++ drop (w * n) output ≡ written w bytes xs output
 written_at w bytes xs n output e = ap (λ (m : ℕ). flat bytes xs ++ drop (w * m) output) (sym e)
@@ -164,6 +192,20 @@ module _ {A : Type 0} (w : ℕ) (bytes : A → List ℕ) (xs : List A) (k n coun
       ap₂ (λ (m : ℕ) (l : List ℕ). (given m, l)) (sym need) (e ∙ ap (λ (l : List A). written w bytes l output) (cut-take xs k n count size cut))
       ∙ simp (le-leb (w * length (take n xs)) (length output) (omega (arith, need)))
 
+-- The same of all records, by how many of them the output has room for.
+module _ {A : Type 0} (w : ℕ) (bytes : A → List ℕ) (xs : List A) (output : List ℕ) (sized : 0 < w) where
+  pub has-no-room : length output / w < length xs → (refused 12, output) ≡ write_records w bytes xs output
+  unfolding write_records
+  has-no-room h =
+      let more : w * (length output / w + 1) ≤ w * length xs = mul-le-mul_left w (omega arith) in
+      simp (lt-leb (w * length xs) (length output) (omega (arith, more, sized)))
+
+  pub has-room : length xs ≤ length output / w → (after : List ℕ) → after ≡ written w bytes xs output → (given (w * length xs), after) ≡ write_records w bytes xs output
+  unfolding write_records
+  has-room h after e =
+      let fits : w * length xs ≤ w * (length output / w) = mul-le-mul_left w h in
+      ap (λ (l : List ℕ). (given (w * length xs), l)) e ∙ simp (le-leb (w * length xs) (length output) (omega (arith, fits, sized)))
+
 -- A writer that has room.
 pub has_room : {A : Type 0} (w : ℕ) (bytes : A → List ℕ) (xs : List A) (output : List ℕ) → w * length xs ≤ length output → (write_records w bytes xs output).1 ≡ written w bytes xs output
 unfolding write_records
@@ -178,19 +220,29 @@ wrote-within w bytes xs output got size e f =
     let told = gives (room_tests need (length output)) need (written w bytes xs output) output got size e f in
     omega (arith, told.1, leb-true need (length output) told.0.0)
 
--- What a writer comes to where its count is not told.
-pub wrote-done : {A : Type 0} (w : ℕ) (bytes : A → List ℕ) (xs : List A) (output : List ℕ) (wrote : Counted) (after : List ℕ) → (counted wrote, after) ≡ write_records w bytes xs output
-    → (v : Verdict) → v ≡ verdict_of wrote → (verdict v, after) ≡ outcome (room_tests (w * length xs) (length output)) tt (written w bytes xs output) output
-unfolding write_records
-wrote-done w bytes xs output (Count n) after e v f =
-    let tests = room_tests (w * length xs) (length output) in
-    let told = gives tests (w * length xs) (written w bytes xs output) output (counted (Count n), after) n e refl in
-    ap₂ (λ (x : Verdict) (l : List ℕ). (verdict x, l)) f told.2 ∙ sym (accepts tt (written w bytes xs output) output tests told.0)
-wrote-done w bytes xs output (Refused refusal) after e v f =
-    let tests = room_tests (w * length xs) (length output) in
-    let told : (outcome tests (w * length xs) (written w bytes xs output) output).0 ≡ refused (number refusal) = ap (λ (x : Answer ℕ × List ℕ). x.0) (sym e) in
-    ap₂ (λ (x : Verdict) (l : List ℕ). (verdict x, l)) f (ap (λ (x : Answer ℕ × List ℕ). x.1) e ∙ keeps (w * length xs) (written w bytes xs output) output tests (number refusal) told)
-    ∙ sym (refuses-alike tests (w * length xs) (written w bytes xs output) output tt (written w bytes xs output) output (number refusal) told)
+-- What a writer comes to where its count is not told: it is turned down, or it wrote.
+module _ {A : Type 0} (w : ℕ) (bytes : A → List ℕ) (xs : List A) (output : List ℕ) (wrote : Result ℕ Refusal) (after : List ℕ)
+    (e : (counted wrote, after) ≡ write_records w bytes xs output)
+  where
+    abbrev tests : Tests
+    tests = room_tests (w * length xs) (length output)
+
+    -- The outcome of such a writer.
+    abbrev done : Answer (Unit {0}) × List ℕ
+    done = outcome tests tt (written w bytes xs output) output
+
+    pub wrote-turned : (refusal : Refusal) → wrote ≡ Err refusal → (refused (number refusal), after) ≡ done
+    unfolding write_records
+    wrote-turned refusal f =
+        let told : (outcome tests (w * length xs) (written w bytes xs output) output).0 ≡ refused (number refusal) = ap (λ (x : Answer ℕ × List ℕ). x.0) (sym e) ∙ ap counted f in
+        ap (λ (l : List ℕ). (refused (number refusal), l)) (ap (λ (x : Answer ℕ × List ℕ). x.1) e ∙ keeps (w * length xs) (written w bytes xs output) output tests (number refusal) told)
+        ∙ sym (refuses-alike tests (w * length xs) (written w bytes xs output) output tt (written w bytes xs output) output (number refusal) told)
+
+    pub wrote-done : (n : ℕ) → wrote ≡ Ok n → (given tt, after) ≡ done
+    unfolding write_records
+    wrote-done n f =
+        let told = gives tests (w * length xs) (written w bytes xs output) output (counted wrote, after) n e (ap counted f) in
+        ap (λ (l : List ℕ). (given tt, l)) told.2 ∙ sym (accepts tt (written w bytes xs output) output tests told.0)
 
 -- ---- the round trips, from the round trip of one record
 

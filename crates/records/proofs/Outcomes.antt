@@ -5,13 +5,10 @@ use mathlib.Core.List.{[], ◌∷◌, ◌++◌, append-nil}
 use mathlib.Core.Bool.{Bool, true, false, false≢true, cond}
 use mathlib.Core.Logic.{◌⊎◌, inl, inr}
 use native.Mathlib.Omega.{arith}
-use Rattle.records.specs.Refusals.{Answer, refused, given, number, Tests, outcome, answer, verdict, handed, refusal_of, turned, Accepts}
+use Rattle.std.specs.Prelude.{Result, Ok, Err}
+use Rattle.records.specs.Refusals.{Answer, refused, given, number, Tests, outcome, answer, verdict, handed, turned, Accepts}
 use Rattle.records.specs.declared.refusal.Refusal.{Refusal}
 use Rattle.records.specs.declared.refusal.Refusal.TheVariants.{JobCount, JobId, IdOrder, Place, JobTimes, QuantumRange, ConfigurationSize, ConfigurationIds, RecordShape, LevelSharing, NotPlaced, OutputLength, PriorityRange, KernelPriority, GateLimits}
-use Rattle.records.specs.declared.refusal.Verdict.{Verdict}
-use Rattle.records.specs.declared.refusal.Verdict.TheVariants.{Accepted, Refused as NotAccepted}
-use Rattle.records.specs.declared.refusal.Counted.{Counted}
-use Rattle.records.specs.declared.refusal.Counted.TheVariants.{Count, Refused}
 
 -- ---- tests after tests: the first ones refuse, or the others decide
 
@@ -136,33 +133,30 @@ number-byte GateLimits = (omega arith, omega arith)
 
 -- ---- a part of the way in: its answer decides what a call with more tests comes to, whatever tests follow
 
--- A part that judges.
-module _ {A B : Type 0} (tests later : Tests) (values : A) (new old : B) (v : Verdict) (judged : verdict v ≡ answer tests tt) where
-  pub turned_by : (refusal : Refusal) → v ≡ NotAccepted refusal → outcome (tests ++ later) values new old ≡ turned refusal old
-  turned_by refusal e = stops tt tt tt values new old later tests (number refusal) (sym judged ∙ ap verdict e)
-
-  pub passed-by : v ≡ Accepted → outcome (tests ++ later) values new old ≡ outcome later values new old
-  passed-by e = goes_on tt tt tt values new old later tests tt (sym judged ∙ ap verdict e)
-
-pub judged-accepts : (tests : Tests) (v : Verdict) → verdict v ≡ answer tests tt → v ≡ Accepted → Accepts tests
-judged-accepts tests v judged e = accepted tt tt tt tests tt (sym judged ∙ ap verdict e)
-
--- A part that reads: a count r, and beside it the value that goes with that count. `held` and `blank` are what its own memory holds.
-module _ {A M : Type 0} (tests : Tests) (defined : A) (held blank : M) (r : Counted) (value : ℕ → A) (read : handed r value ≡ (outcome tests defined held blank).0) where
+-- A part that gives a value, which `taken` takes. `held` and `blank` are what its own memory holds.
+module _ {V A M : Type 0} (tests : Tests) (defined : A) (held blank : M) (r : Result V Refusal) (taken : V → A) (read : handed r taken ≡ (outcome tests defined held blank).0) where
   -- Past the part: its tests hold, and the value is the one defined.
-  pub handed-on : (n : ℕ) → r ≡ Count n → Accepts tests × (value n ≡ defined)
-  handed-on n e =
-      let given_is : (outcome tests defined held blank).0 ≡ given (value n) = sym read ∙ ap (λ (x : Counted). handed x value) e in
-      let got = gives tests defined held blank (outcome tests defined held blank) (value n) refl given_is in
+  pub handed-on : (v : V) → r ≡ Ok v → Accepts tests × (taken v ≡ defined)
+  handed-on v e =
+      let given_is : (outcome tests defined held blank).0 ≡ given (taken v) = sym read ∙ ap (λ (x : Result V Refusal). handed x taken) e in
+      let got = gives tests defined held blank (outcome tests defined held blank) (taken v) refl given_is in
       (got.0, got.1)
 
   module _ {B C : Type 0} (later : Tests) (values : B) (new old : C) where
-    pub turned_down : (refusal : Refusal) → r ≡ Refused refusal → outcome (tests ++ later) values new old ≡ turned refusal old
-    turned_down refusal e = stops defined held blank values new old later tests (number refusal) (sym read ∙ ap (λ (x : Counted). handed x value) e)
+    pub turned_down : (refusal : Refusal) → r ≡ Err refusal → outcome (tests ++ later) values new old ≡ turned refusal old
+    turned_down refusal e = stops defined held blank values new old later tests (number refusal) (sym read ∙ ap (λ (x : Result V Refusal). handed x taken) e)
 
-    pub gone-past : (n : ℕ) → r ≡ Count n → outcome (tests ++ later) values new old ≡ outcome later values new old
-    gone-past n e = goes_on defined held blank values new old later tests (value n) (sym read ∙ ap (λ (x : Counted). handed x value) e)
+    pub gone-past : (v : V) → r ≡ Ok v → outcome (tests ++ later) values new old ≡ outcome later values new old
+    gone-past v e = goes_on defined held blank values new old later tests (taken v) (sym read ∙ ap (λ (x : Result V Refusal). handed x taken) e)
 
--- What is returned when a count could not be taken out of an answer.
-pub refused_as : {A B : Type 0} (r : Counted) (k refusal : Refusal) (old : B) → r ≡ Refused k → refusal ≡ refusal_of r → turned {A = A} refusal old ≡ turned k old
-refused_as {A} r k refusal old e f = ap (λ (x : Refusal). turned {A = A} x old) (f ∙ ap refusal_of e)
+-- A part that judges.
+module _ (tests : Tests) (v : Result (Unit {0}) Refusal) (judged : verdict v ≡ answer tests tt) where
+  pub judged-accepts : (u : Unit {0}) → v ≡ Ok u → Accepts tests
+  judged-accepts u e = (handed-on tests tt tt tt v (λ (x : Unit {0}). tt) judged u e).0
+
+  module _ {A B : Type 0} (later : Tests) (values : A) (new old : B) where
+    pub turned_by : (refusal : Refusal) → v ≡ Err refusal → outcome (tests ++ later) values new old ≡ turned refusal old
+    turned_by refusal e = turned_down tests tt tt tt v (λ (x : Unit {0}). tt) judged later values new old refusal e
+
+    pub passed-by : (u : Unit {0}) → v ≡ Ok u → outcome (tests ++ later) values new old ≡ outcome later values new old
+    passed-by u e = gone-past tests tt tt tt v (λ (x : Unit {0}). tt) judged later values new old u e

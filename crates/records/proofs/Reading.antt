@@ -12,12 +12,13 @@ use borrow.Author.Tests.{leb-true, eqb-true, le-leb}
 use Rattle.sets.proofs.Places.{every-at}
 use Rattle.records.specs.Limits.{longest_period, longest_deadline, most_jobs}
 use Rattle.records.specs.Records.{chunks}
-use Rattle.records.specs.Refusals.{counted, Accepts}
+use Rattle.std.specs.Prelude.{Result, Ok, Err}
+use Rattle.records.specs.Refusals.{Answer, outcome, handed, Accepts}
 use Rattle.records.specs.Jobs.{job_size, job_of, blank_job, job_at, NoDelay, times_ok, job_ok_at, job_tests, count_tests, table_tests, AcceptedJobs, block_tests, job_count, jobs_in, job_list, job_table, jobs_outcome, read_jobs}
 use Rattle.records.specs.declared.job.Job.{Job}
 use Rattle.records.specs.declared.judge.JobRule.TheVariants.{Times}
-use Rattle.records.specs.declared.refusal.Counted.TheVariants.{Count}
-use Rattle.records.specs.declared.block.JobsRead.{JobsRead}
+use Rattle.records.specs.declared.refusal.Refusal.{Refusal}
+use Rattle.records.specs.declared.block.JobTable.{JobTable}
 use Rattle.records.proofs.Outcomes.{gives, accepts-both}
 use Rattle.records.proofs.FixedWidth.{length-chunks}
 
@@ -88,7 +89,15 @@ old-block block zeros i = elim (dec_le (suc i) (job_count block)) [
 
 -- ---- after a call of read_jobs
 
-pub jobs-read : (block : List ℕ) (r : JobsRead) → jobs_outcome r ≡ read_jobs block → (n : ℕ) → r.answer ≡ Count n
-    → Accepts (block_tests block) × (n ≡ job_count block) × (r.table ≡ job_table (job_list block))
+-- The number of jobs alone.
+pub jobs-told : (block : List ℕ) (r : Result JobTable Refusal) → jobs_outcome r ≡ read_jobs block
+    → handed r (λ jobs. jobs.count) ≡ (outcome (block_tests block) (job_count block) (job_table (job_list block)) (job_table [])).0
 unfolding read_jobs
-jobs-read block r ensured n e = gives (block_tests block) (job_count block) (job_table (job_list block)) (job_table []) (jobs_outcome r) n ensured (ap counted e)
+jobs-told block (Ok jobs) ensured = ap (λ (x : Answer ℕ × List Job). x.0) ensured
+jobs-told block (Err refusal) ensured = ap (λ (x : Answer ℕ × List Job). x.0) ensured
+
+pub jobs-read : (block : List ℕ) (r : Result JobTable Refusal) → jobs_outcome r ≡ read_jobs block → (jobs : JobTable) → r ≡ Ok jobs
+    → Accepts (block_tests block) × (jobs.count ≡ job_count block) × (jobs.table ≡ job_table (job_list block))
+unfolding read_jobs
+jobs-read block r ensured jobs e =
+    gives (block_tests block) (job_count block) (job_table (job_list block)) (job_table []) (jobs_outcome (Ok jobs)) jobs.count (ap jobs_outcome (sym e) ∙ ensured) refl

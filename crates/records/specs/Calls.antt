@@ -1,26 +1,23 @@
 -- The way in: what every entry asks of a job block and a range before anything else, refusals 1, 2, 3, 5 and 6 (01). Assumes nothing.
-use Rattle.std.specs.Prelude.{ℕ, List, ◌++◌, take}
-use Rattle.records.specs.Refusals.{Answer, refused, given, number, Tests, answer, handed}
-use Rattle.records.specs.Jobs.{table_tests, block_tests, job_count, job_list}
+use Rattle.std.specs.Prelude.{ℕ, Result, List, ◌++◌}
+use Rattle.records.specs.Refusals.{Answer, Tests, answer, handed}
+use Rattle.records.specs.Jobs.{table_tests, block_tests, job_count, job_list, listed}
 use Rattle.records.specs.Ranges.{range_of, range_tests}
 use Rattle.records.specs.declared.job.Job.{Job}
 use Rattle.records.specs.declared.range.Range.{Range}
 use Rattle.records.specs.declared.call.Call.{Call}
-use Rattle.records.specs.declared.refusal.Verdict.{Verdict}
-use Rattle.records.specs.declared.refusal.Verdict.TheVariants.{Accepted, Refused as NotAccepted}
+use Rattle.records.specs.declared.refusal.Refusal.{Refusal}
 
 -- An accepted question: the number of jobs, the list of jobs, and the range.
 abbrev pub Asked : Type 0
 Asked = ℕ × (List Job × Range)
 
-abbrev pub asked : Call → Answer Asked
-asked call = handed call.answer (λ n. (n, (take n call.table, call.range)))
+-- What a call that is handed on asks, and what read_call answers.
+abbrev pub asks : Call → Asked
+asks call = (call.jobs.count, (listed call.jobs, call.range))
 
--- The answer after a further judgement: the first refusal stays.
-abbrev pub judged_by : {A : Type 0} → Verdict → Answer A → Answer A
-judged_by v (refused k) = refused k
-judged_by Accepted (given a) = given a
-judged_by (NotAccepted refusal) (given a) = refused (number refusal)
+abbrev pub asked : Result Call Refusal → Answer Asked
+asked r = handed r asks
 
 abbrev pub call_tests : List ℕ → ℕ → ℕ → Tests
 call_tests jobs low high = block_tests jobs ++ range_tests low high

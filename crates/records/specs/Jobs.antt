@@ -1,15 +1,14 @@
 -- The job block and the job table: what a record means, which refusal applies first, what is read and what is written. Assumes nothing.
-use Rattle.std.specs.Prelude.{ℕ, zero, suc, ◌*◌, ◌/◌, ◌%◌, List, [], ◌∷◌, ◌++◌, Bool, ◌&&◌, ◌≡◌, length, get_or, take, ltb, leb, eqb}
+use Rattle.std.specs.Prelude.{ℕ, Result, Ok, Err, zero, suc, ◌*◌, ◌/◌, ◌%◌, List, [], ◌∷◌, ◌++◌, Bool, ◌&&◌, ◌≡◌, length, get_or, take, ltb, leb, eqb}
 use Rattle.sets.specs.Places.{every}
 use Rattle.records.specs.Limits.{longest_period, longest_deadline, most_jobs}
-use Rattle.records.specs.Refusals.{Answer, refused, given, number, Tests, outcome, counted, Accepts}
+use Rattle.records.specs.Refusals.{Answer, given, Tests, outcome, turned, handed, Accepts}
 use Rattle.records.specs.Records.{word, word_bytes, flat, chunks, table, written, room_tests}
 use Rattle.records.specs.declared.job.Job.{Job}
-use Rattle.records.specs.declared.job.NewJob.{NewJob}
-use Rattle.records.specs.declared.job.NewJob.TheVariants.{Made, Refused}
 use Rattle.records.specs.declared.judge.JobRule.{JobRule}
 use Rattle.records.specs.declared.judge.JobRule.TheVariants.{Id, Order, Times}
-use Rattle.records.specs.declared.block.JobsRead.{JobsRead}
+use Rattle.records.specs.declared.block.JobTable.{JobTable}
+use Rattle.records.specs.declared.refusal.Refusal.{Refusal}
 
 -- ---- one record
 
@@ -88,9 +87,8 @@ abbrev pub new_job_tests : ℕ → ℕ → ℕ → ℕ → Tests
 new_job_tests id cost period deadline = (leb 1 id, 2) ∷ (times_ok cost period deadline, 5) ∷ []
 
 -- What Job::new answers, in 01's numbers and values.
-abbrev pub new_job_answer : NewJob → Answer Job
-new_job_answer (Made job) = given job
-new_job_answer (Refused refusal) = refused (number refusal)
+abbrev pub new_job_answer : Result Job Refusal → Answer Job
+new_job_answer r = handed r (λ job. job)
 
 -- ---- reading
 
@@ -116,9 +114,14 @@ block_tests block = size_tests (length block) ++ job_tests (job_count block) (jo
 abbrev pub job_table : List Job → List Job
 job_table jobs = table most_jobs blank_job jobs
 
--- What read_jobs answers, in 01's numbers and values: the number of jobs; and the table.
-abbrev pub jobs_outcome : JobsRead → Answer ℕ × List Job
-jobs_outcome r = (counted r.answer, r.table)
+-- The jobs of a table: as many as it counts.
+abbrev pub listed : JobTable → List Job
+listed jobs = take jobs.count jobs.table
+
+-- What read_jobs answers, in 01's numbers and values: the number of jobs; and the table, blank where there is none.
+abbrev pub jobs_outcome : Result JobTable Refusal → Answer ℕ × List Job
+jobs_outcome (Ok jobs) = (given jobs.count, jobs.table)
+jobs_outcome (Err refusal) = turned refusal (job_table [])
 
 -- The outcome of read_jobs: the number of jobs, and the table beside it.
 unfoldable pub read_jobs : List ℕ → Answer ℕ × List Job

@@ -4,3 +4,4 @@ pub mod Records
 pub mod Jobs
 pub mod Ranges
 pub mod Calls
+pub mod RecordLaws

@@ -1,10 +1,9 @@
 -- The range of quanta: refusal 6. Assumes nothing.
-use Rattle.std.specs.Prelude.{ℕ, [], ◌∷◌, leb}
+use Rattle.std.specs.Prelude.{ℕ, Result, [], ◌∷◌, leb}
 use Rattle.records.specs.Limits.{longest_quantum}
-use Rattle.records.specs.Refusals.{Answer, refused, given, number, Tests, Accepts}
+use Rattle.records.specs.Refusals.{Answer, handed, Tests, Accepts}
 use Rattle.records.specs.declared.range.Range.{Range}
-use Rattle.records.specs.declared.range.NewRange.{NewRange}
-use Rattle.records.specs.declared.range.NewRange.TheVariants.{Made, Refused}
+use Rattle.records.specs.declared.refusal.Refusal.{Refusal}
 
 -- The range of two numbers.
 abbrev pub range_of : ℕ → ℕ → Range
@@ -19,6 +18,5 @@ abbrev pub AcceptedRange : ℕ → ℕ → Type 0
 AcceptedRange low high = Accepts (range_tests low high)
 
 -- What Range::new answers, in 01's numbers and values.
-abbrev pub new_range_answer : NewRange → Answer Range
-new_range_answer (Made range) = given range
-new_range_answer (Refused refusal) = refused (number refusal)
+abbrev pub new_range_answer : Result Range Refusal → Answer Range
+new_range_answer r = handed r (λ range. range)

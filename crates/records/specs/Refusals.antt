@@ -1,12 +1,8 @@
 -- Why a call is turned down (01): the numbers of the refusals, the tests of a call in the order in which they are made,
 -- and the outcome of a call by its tests. Assumes nothing.
-use Rattle.std.specs.Prelude.{ℕ, List, [], ◌∷◌, Bool, true, cond, ◌≡◌}
+use Rattle.std.specs.Prelude.{ℕ, Result, Ok, Err, List, [], ◌∷◌, Bool, true, cond, ◌≡◌}
 use Rattle.records.specs.declared.refusal.Refusal.{Refusal}
 use Rattle.records.specs.declared.refusal.Refusal.TheVariants.{JobCount, JobId, IdOrder, Place, JobTimes, QuantumRange, ConfigurationSize, ConfigurationIds, RecordShape, LevelSharing, NotPlaced, OutputLength, PriorityRange, KernelPriority, GateLimits}
-use Rattle.records.specs.declared.refusal.Verdict.{Verdict}
-use Rattle.records.specs.declared.refusal.Verdict.TheVariants.{Accepted, Refused as NotAccepted}
-use Rattle.records.specs.declared.refusal.Counted.{Counted}
-use Rattle.records.specs.declared.refusal.Counted.TheVariants.{Count, Refused}
 
 -- The number of each refusal.
 abbrev pub number : Refusal → ℕ
@@ -56,25 +52,15 @@ Accepts (t ∷ tests) = (t.0 ≡ true) × Accepts tests
 
 -- ---- answers as the code has them, in 01's numbers and values
 
+-- A value that the code gives, as `taken` takes it, or its refusal.
+abbrev pub handed : {V A : Type 0} → Result V Refusal → (V → A) → Answer A
+handed (Ok v) taken = given (taken v)
+handed (Err refusal) taken = refused (number refusal)
+
 -- No value.
-abbrev pub verdict : Verdict → Answer (Unit {0})
-verdict Accepted = given tt
-verdict (NotAccepted refusal) = refused (number refusal)
+abbrev pub verdict : Result (Unit {0}) Refusal → Answer (Unit {0})
+verdict r = handed r (λ v. tt)
 
--- A count, and what stands beside it: the value of that count.
-abbrev pub handed : {A : Type 0} → Counted → (ℕ → A) → Answer A
-handed (Count n) value = given (value n)
-handed (Refused refusal) value = refused (number refusal)
-
-abbrev pub counted : Counted → Answer ℕ
+-- A count, or another value that is told as it is.
+abbrev pub counted : Result ℕ Refusal → Answer ℕ
 counted r = handed r (λ n. n)
-
--- The refusal of an answer; JobCount where there is none.
-abbrev pub refusal_of : Counted → Refusal
-refusal_of (Count n) = JobCount
-refusal_of (Refused refusal) = refusal
-
--- An answer without its count.
-abbrev pub verdict_of : Counted → Verdict
-verdict_of (Count n) = Accepted
-verdict_of (Refused refusal) = NotAccepted refusal

@@ -1,9 +1,12 @@
 // A job and its limits.
 ghost use Rattle.std.specs.Prelude.{◌≡◌, min};
+ghost use Rattle.std.proofs.Common.{rules};
 ghost use Rattle.records.specs.Limits.{most_jobs};
 ghost use Rattle.records.specs.Refusals.{answer};
-ghost use Rattle.records.specs.Jobs.{times_ok, new_job_tests, new_job_answer};
+ghost use Rattle.records.specs.Jobs.{times_ok, new_job_tests, new_job_answer, job_of, job_bytes, blank_job};
+ghost use Rattle.records.specs.RecordLaws.{job-width, job-own};
 
+use crate::record::{FromRecord, ToRecord};
 use crate::refusal::Refusal;
 
 #[derive(Clone, Copy)]
@@ -14,13 +17,6 @@ pub struct Job {
     pub cost: u16,
     pub period: u16,
     pub deadline: u16,
-}
-
-// What making a job answers.
-#[derive(Clone, Copy)]
-pub enum NewJob {
-    Made(Job),
-    Refused(Refusal),
 }
 
 impl Job {
@@ -75,21 +71,69 @@ impl Job {
     }
 
     // A job, or the first refusal that applies to its numbers.
-    pub fn new(id: u8, delay: u8, cost: u16, period: u16, deadline: u16) -> NewJob
+    pub fn new(id: u8, delay: u8, cost: u16, period: u16, deadline: u16) -> Result<Job, Refusal>
         ensures { new_job_answer result ≡ answer (new_job_tests id cost period deadline) (record { id = id; delay = delay; cost = cost; period = period; deadline = deadline }) }
     {
         if id < 1 {
-            return NewJob::Refused(Refusal::JobId);
+            return Err(Refusal::JobId);
         }
         if !Job::times_ok(cost, period, deadline) {
-            return NewJob::Refused(Refusal::JobTimes);
+            return Err(Refusal::JobTimes);
         }
-        NewJob::Made(Job {
+        Ok(Job {
             id,
             delay,
             cost,
             period,
             deadline,
         })
+    }
+}
+
+impl ToRecord<{ Job::SIZE }> for Job {
+    ghost bytes = { job_bytes };
+
+    ghost sized = { Prim.search rules };
+
+    ghost width = { job-width };
+
+    fn to_bytes(self) -> [u8; Job::SIZE] {
+        let [cost_high, cost_low] = self.cost.to_be_bytes();
+        let [period_high, period_low] = self.period.to_be_bytes();
+        let [deadline_high, deadline_low] = self.deadline.to_be_bytes();
+        [
+            self.id,
+            self.delay,
+            cost_high,
+            cost_low,
+            period_high,
+            period_low,
+            deadline_high,
+            deadline_low,
+        ]
+    }
+}
+
+impl FromRecord<{ Job::SIZE }> for Job {
+    ghost read = { job_of };
+
+    ghost blank = { blank_job };
+
+    ghost sized = { Prim.search rules };
+
+    ghost own = { job-own };
+
+    fn blank() -> Job {
+        Job::BLANK
+    }
+
+    fn from_bytes(bytes: &[u8; Job::SIZE]) -> Job {
+        Job {
+            id: bytes[0],
+            delay: bytes[1],
+            cost: u16::from_be_bytes([bytes[2], bytes[3]]),
+            period: u16::from_be_bytes([bytes[4], bytes[5]]),
+            deadline: u16::from_be_bytes([bytes[6], bytes[7]]),
+        }
     }
 }

@@ -7,8 +7,8 @@ ghost use Rattle.records.specs.Jobs.{job_ok, job_ok_at, job_tests, size_tests, t
 ghost use Rattle.records.specs.Calls.{question_tests};
 
 use crate::job::Job;
-use crate::range::{NewRange, Range};
-use crate::refusal::{Refusal, Verdict};
+use crate::range::Range;
+use crate::refusal::Refusal;
 
 // What a job is held to: refusals 2, 3 and 5.
 #[derive(Clone, Copy)]
@@ -36,14 +36,12 @@ pub fn first_faulty(rule: JobRule, table: [Job; Job::MOST], n: usize) -> usize
 {
     let count = Job::at_most(n);
     let mut before: u8 = 0;
-    let mut i = 0;
-    while i < count {
+    for i in 0..count {
         let job = table[i];
         if !job_ok(rule, before, job) {
             return i;
         }
         before = job.id;
-        i += 1;
     }
     count
 }
@@ -57,62 +55,56 @@ fn all_ok(rule: JobRule, table: [Job; Job::MOST], n: usize) -> bool
 }
 
 // Judges the first n jobs of a table: refusals 2, 3 and 5.
-pub(crate) fn judge_jobs(table: [Job; Job::MOST], n: usize) -> Verdict
+pub(crate) fn judge_jobs(table: [Job; Job::MOST], n: usize) -> Result<(), Refusal>
     requires { n ≤ most_jobs }
     ensures { verdict result ≡ answer (job_tests n table) tt }
 {
     if !all_ok(JobRule::Id, table, n) {
-        return Verdict::Refused(Refusal::JobId);
+        return Err(Refusal::JobId);
     }
     if !all_ok(JobRule::Order, table, n) {
-        return Verdict::Refused(Refusal::IdOrder);
+        return Err(Refusal::IdOrder);
     }
     if !all_ok(JobRule::Times, table, n) {
-        return Verdict::Refused(Refusal::JobTimes);
+        return Err(Refusal::JobTimes);
     }
-    Verdict::Accepted
+    Ok(())
 }
 
 // Judges the size of a job block: refusal 1.
-pub(crate) fn judge_size(size: usize) -> Verdict
+pub(crate) fn judge_size(size: usize) -> Result<(), Refusal>
     ensures { verdict result ≡ answer (size_tests size) tt }
 {
     if size < 1 {
-        return Verdict::Refused(Refusal::JobCount);
+        return Err(Refusal::JobCount);
     }
     if Job::MOST * Job::SIZE < size {
-        return Verdict::Refused(Refusal::JobCount);
+        return Err(Refusal::JobCount);
     }
     if size % Job::SIZE != 0 {
-        return Verdict::Refused(Refusal::JobCount);
+        return Err(Refusal::JobCount);
     }
-    Verdict::Accepted
+    Ok(())
 }
 
 // Judges a table of n jobs: refusals 1, 2, 3 and 5.
-pub(crate) fn judge_table(table: [Job; Job::MOST], n: usize) -> Verdict
+pub(crate) fn judge_table(table: [Job; Job::MOST], n: usize) -> Result<(), Refusal>
     ensures { verdict result ≡ answer (table_tests n table) tt }
 {
     if n < 1 {
-        return Verdict::Refused(Refusal::JobCount);
+        return Err(Refusal::JobCount);
     }
     if Job::MOST < n {
-        return Verdict::Refused(Refusal::JobCount);
+        return Err(Refusal::JobCount);
     }
     judge_jobs(table, n)
 }
 
 // Judges a table of n jobs and a range. No entry; refusals 1, 2, 3, 5 and 6.
-pub fn judge_question(table: [Job; Job::MOST], n: usize, range: Range) -> Verdict
+pub fn judge_question(table: [Job; Job::MOST], n: usize, range: Range) -> Result<(), Refusal>
     ensures { verdict result ≡ answer (question_tests n table range) tt }
 {
-    let judged = judge_table(table, n);
-    if let Verdict::Refused(_) = judged {
-        return judged;
-    }
-    let made = Range::new(range.low, range.high);
-    match made {
-        NewRange::Made(_) => Verdict::Accepted,
-        NewRange::Refused(refusal) => Verdict::Refused(refusal),
-    }
+    judge_table(table, n)?;
+    Range::new(range.low, range.high)?;
+    Ok(())
 }

@@ -2,10 +2,9 @@
 #![tactic(auto)]
 
 pub mod block;
-mod bytes;
 pub mod call;
 pub mod job;
 pub mod judge;
 pub mod range;
+pub mod record;
 pub mod refusal;
-pub mod word;

@@ -12,13 +12,6 @@ pub struct Range {
     pub high: u8,
 }
 
-// What making a range answers.
-#[derive(Clone, Copy)]
-pub enum NewRange {
-    Made(Range),
-    Refused(Refusal),
-}
-
 impl Range {
     // The longest quantum, in ticks.
     pub const LONGEST_QUANTUM: u8 = 64;
@@ -27,18 +20,18 @@ impl Range {
     pub const BLANK: Range = Range { low: 0, high: 0 };
 
     // A range, or refusal 6.
-    pub fn new(low: u8, high: u8) -> NewRange
+    pub fn new(low: u8, high: u8) -> Result<Range, Refusal>
         ensures { new_range_answer result ≡ answer (range_tests low high) (range_of low high) }
     {
         if low < 1 {
-            return NewRange::Refused(Refusal::QuantumRange);
+            return Err(Refusal::QuantumRange);
         }
         if high < low {
-            return NewRange::Refused(Refusal::QuantumRange);
+            return Err(Refusal::QuantumRange);
         }
         if Range::LONGEST_QUANTUM < high {
-            return NewRange::Refused(Refusal::QuantumRange);
+            return Err(Refusal::QuantumRange);
         }
-        NewRange::Made(Range { low, high })
+        Ok(Range { low, high })
     }
 }

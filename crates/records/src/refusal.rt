@@ -1,9 +1,9 @@
 // Why a call is turned down.
 ghost use Rattle.std.specs.Prelude.{◌≡◌};
-ghost use Rattle.records.specs.Refusals.{number, refusal_of, verdict_of};
+ghost use Rattle.records.specs.Refusals.{number};
 
 // A case for each line of 01's list, and for those that 02 adds.
-#[derive(Clone, Copy)]
+#[derive(Clone, Copy, Debug, PartialEq, Eq)]
 pub enum Refusal {
     JobCount,
     JobId,
@@ -44,39 +44,5 @@ impl Refusal {
             Refusal::KernelPriority => 14,
             Refusal::GateLimits => 15,
         }
-    }
-}
-
-// The answer of a function that gives no value.
-#[derive(Clone, Copy)]
-pub enum Verdict {
-    Accepted,
-    Refused(Refusal),
-}
-
-// The answer of a function that gives a count: of jobs, of records or of bytes.
-#[derive(Clone, Copy)]
-pub enum Counted {
-    Count(usize),
-    Refused(Refusal),
-}
-
-// The refusal of an answer. No entry; it gives JobCount where there is none.
-pub fn refusal_of(answer: Counted) -> Refusal
-    ensures { result ≡ refusal_of answer }
-{
-    match answer {
-        Counted::Count(_) => Refusal::JobCount,
-        Counted::Refused(refusal) => refusal,
-    }
-}
-
-// An answer without its count. No entry.
-pub fn verdict_of(answer: Counted) -> Verdict
-    ensures { result ≡ verdict_of answer }
-{
-    match answer {
-        Counted::Count(_) => Verdict::Accepted,
-        Counted::Refused(refusal) => Verdict::Refused(refusal),
     }
 }

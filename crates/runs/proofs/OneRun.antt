@@ -18,7 +18,8 @@ use Rattle.response.proofs.Breakdown.{bound-reached}
 use Rattle.response.proofs.Division.{ceil-covers, ceil-mono, ceil-le}
 use Rattle.response.proofs.Least.{least-found}
 use Rattle.response.proofs.Runs.{plus-from, plus-at-least, run-never}
-use Rattle.finishes.specs.Finishes.{whole, Table, utilisations_of, table_of, spare_of, carried}
+use Rattle.finishes.specs.Finishes.{whole, utilisations_of, table_of, spare_of, carried}
+use Rattle.finishes.specs.declared.capacity.Table.{Table}
 use Rattle.runs.specs.Runs.{own_demand, finish_by, largest_by, runs_on, run_for, run_bound}
 use Rattle.finishes.proofs.Climbing.{Below, below-zero, time-idle}
 use Rattle.finishes.proofs.Utilisation.{leaves}

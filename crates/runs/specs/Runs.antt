@@ -5,7 +5,8 @@ use Rattle.std.specs.Prelude.{ℕ, zero, suc, ◌+◌, ◌*◌, ◌-◌, max, Bo
 use Rattle.sets.specs.Sets.{Set}
 use Rattle.records.specs.declared.job.Job.{Job}
 use Rattle.response.specs.Demand.{ceil_div, most_instances}
-use Rattle.finishes.specs.Finishes.{whole, Table, spare_of, carried, time_for}
+use Rattle.finishes.specs.Finishes.{whole, spare_of, carried, time_for}
+use Rattle.finishes.specs.declared.capacity.Table.{Table}
 
 -- The own demand of so much own work, with the layer's share for it.
 unfoldable pub own_demand : ℕ → ℕ → ℕ → ℕ

@@ -2,14 +2,13 @@
 // is one of the two bounds.
 #![tactic(auto)]
 
-ghost use Rattle.std.specs.Prelude.{◌≡◌, ◌-◌, ◌*◌, ◌^◌, ◌<◌, ◌≤◌};
+ghost use Rattle.std.specs.Prelude.{◌≡◌, ◌*◌, ◌^◌, ◌<◌, ◌≤◌};
 ghost use Rattle.sets.specs.Sets.{has};
 ghost use Rattle.response.specs.Demand.{ceil_div};
 ghost use Rattle.finishes.specs.Finishes.{whole};
 ghost use Rattle.runs.specs.Runs.{own_demand, is_sought, largest_by, runs_on, run_for};
 
-use finishes::capacity::WHOLE;
-use finishes::{capacity, finish};
+use finishes::capacity::{Capacity, Table, WHOLE};
 use records::job::Job;
 
 // The most instances that a bound goes over.
@@ -20,11 +19,8 @@ fn runs_on(spare: u64, quantum: u8, others: u16, job: Job) -> bool
     requires { spare ≤ whole }
     ensures { result ≡ runs_on spare quantum others job }
 {
-    if quantum == 0 {
-        return false;
-    }
     let held = (job.period as u64) * (quantum as u64) * spare;
-    held < (job.cost as u64) * (quantum as u64 + others as u64) * WHOLE
+    0 < quantum && held < (job.cost as u64) * (quantum as u64 + others as u64) * WHOLE
 }
 
 // The cycles of so much work: the work divided by the quantum, rounded up; none without a quantum.
@@ -48,41 +44,26 @@ fn own_demand(cost: u32, count: u32, quantum: u8, others: u16) -> u64
     work as u64 + (cycles as u64) * (others as u64)
 }
 
-// a less b; 0 where b is more.
-fn less(a: u32, b: u32) -> u32
-    ensures { result ≡ a - b }
-{
-    if a < b {
-        return 0;
-    }
-    a - b
-}
-
 // Whether a response is the one that is sought; none is, where that is 0.
 fn is_sought(sought: u16, response: u32) -> bool
     ensures { result ≡ is_sought sought response }
 {
-    if sought == 0 {
-        return false;
-    }
-    response == sought as u32
+    0 < sought && response == sought as u32
 }
 
 // The largest response of a job up to the first instance that finishes by its next release; 0 where a finish does not exist by the
 // instance's deadline, or where the last instance still runs past its next release. Each finish counts with the job's delay. Where a
 // response is sought, the number of instances up to the first that has it.
 fn largest_response(
-    jobs: [Job; Job::MOST],
-    utilisations: [u32; Job::MOST],
+    table: Table,
     above: u8,
-    spare: u64,
-    carry: u32,
+    left: Capacity,
     quantum: u8,
     others: u16,
     job: Job,
     sought: u16,
 ) -> u16
-    ensures { result ≡ largest_by (record { jobs = jobs; utilisations = utilisations }) (has above) spare carry quantum others job sought }
+    ensures { result ≡ largest_by table (has above) left.spare left.carry quantum others job sought }
 {
     let cost = job.cost as u32;
     let period = job.period as u32;
@@ -90,12 +71,11 @@ fn largest_response(
     let delay = job.delay as u32;
     let mut largest: u32 = 0;
     let mut before: u32 = 0;
-    let mut instance: u32 = 0;
-    while instance < INSTANCES {
+    for instance in 0..INSTANCES {
         let release = instance * period;
         let own = own_demand(cost, instance + 1, quantum, others);
-        let limit = less(release + deadline, delay);
-        let finish = finish::time_for(jobs, utilisations, above, spare, carry, own, limit, before);
+        let limit = (release + deadline).saturating_sub(delay);
+        let finish = table.time_for(above, left, own, limit, before);
         if finish == 0 {
             return 0;
         }
@@ -103,14 +83,11 @@ fn largest_response(
         if is_sought(sought, response) {
             return (instance + 1) as u16;
         }
-        if largest < response {
-            largest = response;
-        }
+        largest = largest.max(response);
         if finish + delay <= release + period {
             return largest as u16;
         }
         before = finish;
-        instance += 1;
     }
     0
 }
@@ -118,30 +95,12 @@ fn largest_response(
 // The run of a job beside a sum of other quanta and below a set: its largest response, which is one of the two bounds; or, where a response
 // is sought, the number of its instances up to the first that has it. It is no entry and judges nothing: its contract says what any numbers
 // give.
-pub fn run_for(
-    jobs: [Job; Job::MOST],
-    utilisations: [u32; Job::MOST],
-    above: u8,
-    quantum: u8,
-    others: u16,
-    job: Job,
-    sought: u16,
-) -> u16
-    ensures { result ≡ run_for (record { jobs = jobs; utilisations = utilisations }) (has above) quantum others job sought }
+pub fn run_for(table: Table, above: u8, quantum: u8, others: u16, job: Job, sought: u16) -> u16
+    ensures { result ≡ run_for table (has above) quantum others job sought }
 {
-    let capacity = capacity::capacity_of(jobs, utilisations, above);
-    if runs_on(capacity.spare, quantum, others, job) {
+    let left = table.capacity_of(above);
+    if runs_on(left.spare, quantum, others, job) {
         return 0;
     }
-    largest_response(
-        jobs,
-        utilisations,
-        above,
-        capacity.spare,
-        capacity.carry,
-        quantum,
-        others,
-        job,
-        sought,
-    )
+    largest_response(table, above, left, quantum, others, job, sought)
 }

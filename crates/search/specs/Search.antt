@@ -7,7 +7,8 @@ use Rattle.records.specs.Limits.{most_jobs}
 use Rattle.records.specs.Jobs.{job_at}
 use Rattle.records.specs.declared.job.Job.{Job}
 use Rattle.response.specs.Demand.{neighbours, other_quanta, with_neighbours, only, lesser}
-use Rattle.finishes.specs.Finishes.{Table, utilisations_of}
+use Rattle.finishes.specs.Finishes.{utilisations_of}
+use Rattle.finishes.specs.declared.capacity.Table.{Table}
 use Rattle.runs.specs.Runs.{run_for}
 use Rattle.search.specs.declared.workload.Workload.{Workload}
 

@@ -12,12 +12,10 @@ pub fn other_quanta(quanta: [u8; Job::MOST], layer: u8, job: usize) -> u16
 {
     let others = sets::remove(layer, job);
     let mut sum: u16 = 0;
-    let mut i = 0;
-    while i < Job::MOST {
+    for (i, quantum) in quanta.iter().enumerate() {
         if sets::contains(others, i) {
-            sum += quanta[i] as u16;
+            sum += *quantum as u16;
         }
-        i += 1;
     }
     sum
 }

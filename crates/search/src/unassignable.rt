@@ -31,14 +31,10 @@ fn drop_served(workload: Workload, set: u8) -> u8
     ensures { result ≡ drop_from (drops workload) most_jobs set }
 {
     let mut kept = set;
-    let mut place = Job::MOST;
-    while 0 < place {
-        let job = place - 1;
+    for job in (0..Job::MOST).rev() {
         if is_dropped(workload, kept, job) {
-            let fewer = sets::remove(kept, job);
-            kept = fewer;
+            kept = sets::remove(kept, job);
         }
-        place = job;
     }
     kept
 }
@@ -48,14 +44,12 @@ pub(crate) fn unassignable_jobs(workload: Workload) -> u8
     ensures { result ≡ unassignable_of workload }
 {
     let mut set = sets::first_jobs(Job::MOST);
-    let mut round: u32 = 0;
-    while round < ROUNDS {
+    for _ in 0..ROUNDS {
         let kept = drop_served(workload, set);
         if kept == set {
             return set;
         }
         set = kept;
-        round += 1;
     }
     0
 }

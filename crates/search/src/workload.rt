@@ -7,7 +7,7 @@ ghost use Rattle.search.specs.Search.{plain_workload, workload, first_decides, b
 
 use crate::quanta::other_quanta;
 use crate::unassignable;
-use finishes::capacity;
+use finishes::capacity::{self, Table};
 use records::job::Job;
 
 // What bounds are found from. Another crate can make one only by `plain` or `new`.
@@ -50,10 +50,7 @@ pub fn lesser(first: u16, second: u16) -> u16
     if first == 0 {
         return second;
     }
-    if second < first {
-        return second;
-    }
-    first
+    first.min(second)
 }
 
 impl Workload {
@@ -75,13 +72,9 @@ impl Workload {
         ensures { result ≡ workload jobs }
     {
         let plain = Workload::plain(jobs);
-        let unassignable = unassignable::unassignable_jobs(plain);
-        let utilisations = plain.utilisations;
         Workload {
-            jobs,
-            utilisations,
-            unassignable,
-            sought: 0,
+            unassignable: unassignable::unassignable_jobs(plain),
+            ..plain
         }
     }
 
@@ -96,16 +89,11 @@ impl Workload {
         let entry = self.jobs[job];
         let quantum = quanta[job];
         let others = other_quanta(quanta, layer, job);
-        let sought = self.sought;
-        let first = runs::run_for(
-            self.jobs,
-            self.utilisations,
-            above,
-            quantum,
-            others,
-            entry,
-            sought,
-        );
+        let table = Table {
+            jobs: self.jobs,
+            utilisations: self.utilisations,
+        };
+        let first = runs::run_for(table, above, quantum, others, entry, self.sought);
         if first_decides(self.unassignable, layer, above, job) {
             return first;
         }
@@ -119,14 +107,10 @@ impl Workload {
     pub fn run(self, quanta: [u8; Job::MOST], layer: u8, above: u8, job: usize, sought: u16) -> u16
         ensures { result ≡ one_bound (record { jobs = self.jobs; utilisations = self.utilisations; unassignable = self.unassignable; sought = sought }) quanta (has layer) (has above) job }
     {
-        let jobs = self.jobs;
-        let utilisations = self.utilisations;
-        let unassignable = sets::single(job);
         let first_alone = Workload {
-            jobs,
-            utilisations,
-            unassignable,
+            unassignable: sets::single(job),
             sought,
+            ..self
         };
         first_alone.bound(quanta, layer, above, job)
     }

@@ -11,22 +11,21 @@ use lib.ListN.{length, get_or, drop, drop_of_length-le}
 use lib.Seq.{drop-cons}
 use Rattle.sets.specs.Sets.{within}
 use Rattle.sets.specs.Order.{keep, next_from, subsets}
-use Rattle.sets.specs.declared.order.Next.{Next}
-use Rattle.sets.specs.declared.order.Next.TheVariants.{At, Nothing}
+use Rattle.std.specs.Prelude.{Option, None, Some}
 
 -- A place of the walk: b is the test that the code made.
 module _ (sequence : List ℕ) (left p : ℕ) (l : p < length sequence) {b : Bool} (test : b ≡ within (get_or sequence p 0) left) where
-  next-step : next_from left p (drop p sequence) ≡ cond b (At p) (next_from left (p + 1) (drop (p + 1) sequence))
+  next-step : next_from left p (drop p sequence) ≡ cond b (Some p) (next_from left (p + 1) (drop (p + 1) sequence))
   unfolding next_from
   next-step = rw (add-one, test) (ap (next_from left p) (drop-cons sequence p 0 l))
 
-  pub next-found : b ≡ true → next_from left p (drop p sequence) ≡ At p
+  pub next-found : b ≡ true → next_from left p (drop p sequence) ≡ Some p
   next-found e = next-step ∙ rw e
 
   pub next-skipped : b ≡ false → next_from left p (drop p sequence) ≡ next_from left (p + 1) (drop (p + 1) sequence)
   next-skipped e = next-step ∙ rw e
 
-pub next-end : (sequence : List ℕ) (left p : ℕ) → length sequence ≤ p → next_from left p (drop p sequence) ≡ Nothing
+pub next-end : (sequence : List ℕ) (left p : ℕ) → length sequence ≤ p → next_from left p (drop p sequence) ≡ None
 unfolding next_from
 next-end sequence left p l = ap (next_from left p) (drop_of_length-le sequence {i = p} l)
 
@@ -39,9 +38,9 @@ pub record Step (sequence : List ℕ) (left p f : ℕ) : Type 0 where
   pub inside : within (get_or sequence f 0) left ≡ true
   pub first : subsets left (drop p sequence) ≡ get_or sequence f 0 ∷ subsets left (drop (f + 1) sequence)
 
-abbrev Says : List ℕ → ℕ → ℕ → Next → Type 0
-Says sequence left p (At f) = Step sequence left p f
-Says sequence left p Nothing = subsets left (drop p sequence) ≡ []
+abbrev Says : List ℕ → ℕ → ℕ → Option ℕ → Type 0
+Says sequence left p (Some f) = Step sequence left p f
+Says sequence left p None = subsets left (drop p sequence) ≡ []
 
 walk : (sequence : List ℕ) (left m p : ℕ) → length sequence ≤ p + m → Says sequence left p (next_from left p (drop p sequence))
 unfolding subsets keep
@@ -68,13 +67,13 @@ walk sequence left (suc m) p h = elim (dec_le (length sequence) p) [
         same : subsets left (drop p sequence) ≡ subsets left (drop (p + 1) sequence)
         same = one-step l ∙ rw e
 
-        on : (o : Next) → Says sequence left (p + 1) o → Says sequence left p o
-        on (At f) S = record { later = omega (arith, S.later); before = S.before; inside = S.inside; first = same ∙ S.first }
-        on Nothing S = same ∙ S
+        on : (o : Option ℕ) → Says sequence left (p + 1) o → Says sequence left p o
+        on (Some f) S = record { later = omega (arith, S.later); before = S.before; inside = S.inside; first = same ∙ S.first }
+        on None S = same ∙ S
 
 module _ (sequence : List ℕ) (left p : ℕ) where
-  pub walk-found : (f : ℕ) → next_from left p (drop p sequence) ≡ At f → Step sequence left p f
+  pub walk-found : (f : ℕ) → next_from left p (drop p sequence) ≡ Some f → Step sequence left p f
   walk-found f e = rw e at (walk sequence left (length sequence) p (omega arith))
 
-  pub walk_ends : next_from left p (drop p sequence) ≡ Nothing → subsets left (drop p sequence) ≡ []
+  pub walk_ends : next_from left p (drop p sequence) ≡ None → subsets left (drop p sequence) ≡ []
   walk_ends e = rw e at (walk sequence left (length sequence) p (omega arith))

@@ -1,10 +1,8 @@
 -- 01's order of the sets of jobs, the walk along a sequence of sets, and which sets are considered (01, "The planner's answer").
 -- A sequence is any list of set numbers; `order` is 01's, which the planner's own order sorts within each size (periods). Assumes nothing.
-use Rattle.std.specs.Prelude.{ℕ, zero, suc, ◌+◌, ◌-◌, ◌^◌, ◌≤◌, ◌<◌, ◌≡◌, Bool, true, false, cond, ◌≢◌, eqb, length, get_or}
+use Rattle.std.specs.Prelude.{ℕ, Option, None, Some, zero, suc, ◌+◌, ◌-◌, ◌^◌, ◌≤◌, ◌<◌, ◌≡◌, Bool, true, false, cond, ◌≢◌, eqb, length, get_or}
 use mathlib.Core.List.{List, [], ◌∷◌, ◌++◌, Memᴰ}
 use Rattle.sets.specs.Sets.{places, rest, within, size}
-use Rattle.sets.specs.declared.order.Next.{Next}
-use Rattle.sets.specs.declared.order.Next.TheVariants.{At, Nothing}
 
 -- The numbers from i on, n of them.
 unfoldable pub range : ℕ → ℕ → List ℕ
@@ -55,9 +53,9 @@ pub record BySize (n : ℕ) (sequence : List ℕ) : Type 0 where
 -- ---- the walk
 
 -- Where the first set of a list that lies within the set left stands, the list's own first place being `place`.
-unfoldable pub next_from : ℕ → ℕ → List ℕ → Next
-next_from left place [] = Nothing
-next_from left place (s ∷ sequence) = cond (within s left) (At place) (next_from left (suc place) sequence)
+unfoldable pub next_from : ℕ → ℕ → List ℕ → Option ℕ
+next_from left place [] = None
+next_from left place (s ∷ sequence) = cond (within s left) (Some place) (next_from left (suc place) sequence)
 
 -- ---- the sets considered
 

@@ -29,23 +29,14 @@ pub fn in_order() -> [u8; SETS]
     ORDER
 }
 
-// Where the next subset stands.
-#[derive(Clone, Copy)]
-pub enum Next {
-    At(usize),
-    Nothing,
-}
-
 // The first place of the sequence, from `place` on, whose set lies within the set left.
-pub fn next_subset(sequence: &[u8], left: u8, place: usize) -> Next
+pub fn next_subset(sequence: &[u8], left: u8, place: usize) -> Option<usize>
     ensures { result ≡ next_from left place (drop place sequence.now) }
 {
-    let mut p = place;
-    while p < sequence.len() {
+    for p in place..sequence.len() {
         if crate::is_within(sequence[p], left) {
-            return Next::At(p);
+            return Some(p);
         }
-        p += 1;
     }
-    Next::Nothing
+    None
 }

@@ -2,8 +2,8 @@ use Prim.Native.Nat.{ℕ, ◌*◌}
 use mathlib.Core.Path.{◌≡◌, ap, ◌∙◌}
 use mathlib.Core.List.{◌++◌}
 use native.Mathlib.Omega.{arith}
-use lib.ListN.{drop, take}
-use lib.Seq.{length-take-le}
+use lib.ListN.{length, drop, take}
+use lib.Seq.{get_or-take, length-take-le}
 use Rattle.records.specs.Records.{flat}
 use Rattle.records.proofs.FixedWidth.{write-next, written_at}
 use Rattle.breakdown.specs.Breakdowns.{parts_size, parts_bytes}
@@ -11,6 +11,11 @@ use Rattle.response.specs.Breakdown.{no_parts}
 use Rattle.breakdown.proofs.Holding.{parts-width}
 use borrow.Author.Rules.{rules}
 use Rattle.breakdown.proofs.bytes.encode.Goals as goal
+use Rattle.breakdown.proofs.bytes.encode.Goals.{Start}
+
+-- The records that the loop goes through.
+size : (c : Start) → length (take c.args.n c.args.table) ≡ c.args.n
+size c = length-take-le c.args.n c.args.table (search rules)
 
 pub loop-i-init : goal.loop-i-init
 unfolding flat
@@ -21,13 +26,14 @@ loop-i-preserved c =
     let l = c.loop-i in
     let a = c.args in
     let put = c.put_parts in
-    (search rules, search rules, write-next parts_bytes parts_size parts-width l.i a.table no_parts a.output.now l.output put.new.output (search rules) l.invariant.2 put.ensures)
+    let own = get_or-take a.n a.table l.i no_parts (omega (arith, size (goal.at.loop-i-preserved c).Start)) in
+    (search rules, write-next parts_bytes parts_size parts-width l.i a.table no_parts a.output.now l.output put.new.output (search rules) l.invariant.1 (rw (← own) put.ensures))
 
 pub returns : goal.returns
 returns c =
     let l = c.loop-i in
     let a = c.args in
-    let e : l.i ≡ a.n = omega arith in
-    l.invariant.2
+    let e : l.i ≡ a.n = omega (arith, size (goal.at.returns c).Start) in
+    l.invariant.1
     ∙ ap (λ (k : ℕ). flat parts_bytes (take k a.table) ++ drop (parts_size * k) a.output.now) e
-    ∙ written_at parts_size parts_bytes (take a.n a.table) a.n a.output.now (length-take-le a.n a.table (search rules))
+    ∙ written_at parts_size parts_bytes (take a.n a.table) a.n a.output.now (size (goal.at.returns c).Start)

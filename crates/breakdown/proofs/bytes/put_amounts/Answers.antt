@@ -18,7 +18,7 @@ loop-i-preserved c =
     let l = c.loop-i in
     let a = c.args in
     let put = c.put_long in
-    (search rules, search rules, write-next long_bytes 4 long-width l.i a.amounts 0 a.output.now l.output put.new.output (search rules) l.invariant.2 put.ensures)
+    (search rules, write-next long_bytes 4 long-width l.i a.amounts 0 a.output.now l.output put.new.output (search rules) l.invariant.1 put.ensures)
 
 pub returns : goal.returns
 returns c =
@@ -26,7 +26,7 @@ returns c =
     let a = c.args in
     let five : length a.amounts ≡ 5 = search rules in
     let e : l.i ≡ 5 = omega arith in
-    l.invariant.2
+    l.invariant.1
     ∙ ap (λ (k : ℕ). flat long_bytes (take k a.amounts) ++ drop (4 * k) a.output.now) e
     ∙ ap (λ (xs : List ℕ). flat long_bytes xs ++ drop 20 a.output.now) (take_all 5 a.amounts (omega arith))
     ∙ written_at 4 long_bytes a.amounts 5 a.output.now five

@@ -1,4 +1,4 @@
-use Prim.Native.Nat.{◌*◌, ◌≤◌, ◌-◌}
+use Prim.Native.Nat.{◌*◌}
 use mathlib.Core.Path.{◌≡◌}
 use mathlib.Core.List.{◌++◌}
 use lib.ListN.{length, drop, take}
@@ -6,7 +6,4 @@ use Rattle.records.specs.Records.{long_bytes, flat}
 use Rattle.breakdown.proofs.bytes.put_amounts.Given as goal
 
 abbrev pub invariant-loop-i : goal.invariant-loop-i
-invariant-loop-i l = (l.i ≤ 5) × (length l.output ≡ length l.initial.output) × (l.output ≡ flat long_bytes (take l.i l.amounts) ++ drop (4 * l.i) l.initial.output)
-
-abbrev pub decreases-loop-i : goal.decreases-loop-i
-decreases-loop-i l = 5 - l.i
+invariant-loop-i l = (length l.output ≡ length l.initial.output) × (l.output ≡ flat long_bytes (take l.i l.fn.amounts) ++ drop (4 * l.i) l.initial.output)

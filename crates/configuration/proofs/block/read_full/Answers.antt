@@ -2,23 +2,25 @@ use Prim.Native.Nat.{ℕ}
 use mathlib.Core.Path.{◌≡◌, sym, ap, ◌∙◌}
 use mathlib.Core.Bool.{Bool}
 use mathlib.Core.List.{List, [], ◌∷◌}
-use lib.ListN.{length, take, length-take}
+use lib.ListN.{length, length-take}
 use borrow.Author.Tests.{not-true, not-false}
+use Rattle.std.proofs.lemmas.Result.{err_from_is_err_and}
 use Rattle.records.specs.Refusals.{Tests, outcome}
+use Rattle.records.specs.Jobs.{listed}
 use Rattle.records.specs.declared.job.Job.{Job}
 use Rattle.configuration.specs.declared.setting.Setting.{Setting}
 use Rattle.configuration.specs.Settings.{setting_table}
 use Rattle.configuration.specs.Configuration.{full, full_tests}
-use Rattle.configuration.specs.Blocks.{settings_for, record_tests, read_settings, read_full}
+use Rattle.configuration.specs.Blocks.{configuration_outcome, settings_for, record_tests, read_settings, read_full}
 use Rattle.configuration.proofs.HandIns.{read-list, read-turned, read-on}
 use borrow.Author.Rules.{rules}
 use Rattle.configuration.proofs.block.read_full.Goals as goal
-use Rattle.configuration.proofs.block.read_full.Goals.{After-all_ok, After-read_settings-read}
+use Rattle.configuration.proofs.block.read_full.Goals.{After-all_ok, After-read_settings}
 
 -- What was read: refusals 7 to 10 came first.
-module _ (c : After-read_settings-read) where
+module _ (c : After-read_settings) where
   abbrev jobs : List Job
-  jobs = take c.args.n c.args.table
+  jobs = listed c.args.call.jobs
 
   abbrev block : List ℕ
   block = c.args.configuration.now
@@ -27,39 +29,42 @@ module _ (c : After-read_settings-read) where
   settings = settings_for jobs block
 
   abbrev tests : Tests
-  tests = let a = c.args in record_tests jobs a.range.low a.range.high block
+  tests = record_tests jobs c.args.call.range.low c.args.call.range.high block
 
-pub returns-in_default : goal.returns-in_default
+pub returns-in_err-settings : goal.returns-in_err-settings
 unfolding read_settings read_full
-returns-in_default c =
-    let got = c.read_settings-read.ensures in
-    let e = c.in_default.is in
-    got
-    ∙ read-turned (jobs (goal.at.returns-in_default c).After-read_settings-read) (tests (goal.at.returns-in_default c).After-read_settings-read) (block (goal.at.returns-in_default c).After-read_settings-read) _ got [] (length (jobs (goal.at.returns-in_default c).After-read_settings-read)) (setting_table (settings (goal.at.returns-in_default c).After-read_settings-read)) (setting_table []) _ e
-    ∙ sym (read-turned (jobs (goal.at.returns-in_default c).After-read_settings-read) (tests (goal.at.returns-in_default c).After-read_settings-read) (block (goal.at.returns-in_default c).After-read_settings-read) _ got (full_tests (jobs (goal.at.returns-in_default c).After-read_settings-read) (settings (goal.at.returns-in_default c).After-read_settings-read)) (length (jobs (goal.at.returns-in_default c).After-read_settings-read)) (setting_table (settings (goal.at.returns-in_default c).After-read_settings-read)) (setting_table []) _ e)
+returns-in_err-settings c =
+    let a = (goal.at.returns-in_err-settings c).After-read_settings in
+    let p = err_from_is_err_and c.from_residual.result c.from_residual.ensures.1 in
+    rw (p.1, p.2)
+    (sym (read-turned (jobs a) (tests a) (block a) c.read_settings.result c.read_settings.ensures (full_tests (jobs a) (settings a)) (length (jobs a)) (setting_table (settings a)) (setting_table []) _ c.in_err-settings.was))
 
 -- Past them, refusal 11 decides.
 module _ (c : After-all_ok) where
-  full_is : full (jobs (goal.at.After-all_ok c).After-read_settings-read) (settings (goal.at.After-all_ok c).After-read_settings-read) ≡ c.all_ok.result
+  full_is : let a = (goal.at.After-all_ok c).After-read_settings in full (jobs a) (settings a) ≡ c.all_ok.result
   unfolding read_settings
   full_is =
-      let a = c.args in
-      sym (c.all_ok.ensures ∙ ap (full (jobs (goal.at.After-all_ok c).After-read_settings-read)) (read-list (jobs (goal.at.After-all_ok c).After-read_settings-read) (tests (goal.at.After-all_ok c).After-read_settings-read) (block (goal.at.After-all_ok c).After-read_settings-read) _ c.read_settings-read.ensures _ c.in-Count.is a.n (length-take a.n a.table ∙ search rules)))
+      let a = (goal.at.After-all_ok c).After-read_settings in
+      let call = c.args.call in
+      sym (c.all_ok.ensures ∙ ap (full (jobs a)) (read-list (jobs a) (tests a) (block a) c.read_settings.result c.read_settings.ensures _ c.in_ok-settings.was call.jobs.count (length-take call.jobs.count call.jobs.table ∙ search rules)))
 
-  on : let a = c.args in
-      read_full (jobs (goal.at.After-all_ok c).After-read_settings-read) a.range.low a.range.high (block (goal.at.After-all_ok c).After-read_settings-read) ≡ outcome ((c.all_ok.result, 11) ∷ []) (length (jobs (goal.at.After-all_ok c).After-read_settings-read)) (setting_table (settings (goal.at.After-all_ok c).After-read_settings-read)) (setting_table [])
+  on : let a = (goal.at.After-all_ok c).After-read_settings in
+      read_full (jobs a) c.args.call.range.low c.args.call.range.high (block a) ≡ outcome ((c.all_ok.result, 11) ∷ []) (length (jobs a)) (setting_table (settings a)) (setting_table [])
   unfolding read_settings read_full
   on =
-      read-on (jobs (goal.at.After-all_ok c).After-read_settings-read) (tests (goal.at.After-all_ok c).After-read_settings-read) (block (goal.at.After-all_ok c).After-read_settings-read) _ c.read_settings-read.ensures (full_tests (jobs (goal.at.After-all_ok c).After-read_settings-read) (settings (goal.at.After-all_ok c).After-read_settings-read)) (length (jobs (goal.at.After-all_ok c).After-read_settings-read)) (setting_table (settings (goal.at.After-all_ok c).After-read_settings-read)) (setting_table []) _ c.in-Count.is
-      ∙ ap (λ (b : Bool). outcome ((b, 11) ∷ []) (length (jobs (goal.at.After-all_ok c).After-read_settings-read)) (setting_table (settings (goal.at.After-all_ok c).After-read_settings-read)) (setting_table [])) full_is
+      let a = (goal.at.After-all_ok c).After-read_settings in
+      read-on (jobs a) (tests a) (block a) c.read_settings.result c.read_settings.ensures (full_tests (jobs a) (settings a)) (length (jobs a)) (setting_table (settings a)) (setting_table []) _ c.in_ok-settings.was
+      ∙ ap (λ (b : Bool). outcome ((b, 11) ∷ []) (length (jobs a)) (setting_table (settings a)) (setting_table [])) full_is
 
 pub returns-then-not-all_ok : goal.returns-then-not-all_ok
-returns-then-not-all_ok c = c.configuration_refused.ensures ∙ sym (on (goal.at.returns-then-not-all_ok c).After-all_ok ∙ simp (not-true c.all_ok.result c.if-not-all_ok.true-raw))
+returns-then-not-all_ok c = sym (on (goal.at.returns-then-not-all_ok c).After-all_ok ∙ simp (not-true c.all_ok.result c.if-not-all_ok.true-raw))
 
 pub returns : goal.returns
 unfolding read_settings
 returns c =
-    let got = c.read_settings-read.ensures in
-    got
-    ∙ read-on (jobs (goal.at.returns c).After-read_settings-read) (tests (goal.at.returns c).After-read_settings-read) (block (goal.at.returns c).After-read_settings-read) _ got [] (length (jobs (goal.at.returns c).After-read_settings-read)) (setting_table (settings (goal.at.returns c).After-read_settings-read)) (setting_table []) _ c.in-Count.is
+    let a = (goal.at.returns c).After-read_settings in
+    let got = c.read_settings.ensures in
+    ap configuration_outcome (sym c.in_ok-settings.was)
+    ∙ got
+    ∙ read-on (jobs a) (tests a) (block a) c.read_settings.result got [] (length (jobs a)) (setting_table (settings a)) (setting_table []) _ c.in_ok-settings.was
     ∙ sym (on (goal.at.returns c).After-all_ok ∙ simp (not-false c.all_ok.result c.if-not-all_ok.false-raw))

@@ -1,61 +1,73 @@
 use Prim.Native.Nat.{ℕ}
-use mathlib.Core.Path.{◌≡◌, ap, ◌∙◌}
+use mathlib.Core.Path.{◌≡◌, sym, ap, ◌∙◌}
 use mathlib.Core.List.{List}
+use native.Mathlib.Omega.{arith}
 use lib.ListN.{length, take}
+use Rattle.std.proofs.lemmas.Result.{err_from_is_err_and}
 use Rattle.records.specs.Limits.{most_jobs}
 use Rattle.records.specs.Refusals.{Tests, verdict, answer}
+use Rattle.records.specs.Jobs.{listed}
 use Rattle.records.specs.declared.job.Job.{Job}
 use Rattle.records.proofs.FixedWidth.{cut-take, cut-length}
 use Rattle.records.proofs.BlockReading.{block_size, block-turned, block_read}
 use Rattle.configuration.specs.declared.setting.Setting.{Setting}
-use Rattle.configuration.specs.Settings.{setting_size, setting_of, blank_setting}
+use Rattle.configuration.specs.Settings.{setting_size, setting_of, blank_setting, setting_table, settings_in}
 use Rattle.configuration.specs.Configuration.{setting_tests}
 use Rattle.configuration.specs.Blocks.{read_settings}
 use borrow.Author.Rules.{rules}
 use Rattle.configuration.proofs.block.read_settings.Goals as goal
-use Rattle.configuration.proofs.block.read_settings.Goals.{After-at_most-count, After-judge_settings-judged}
+use Rattle.configuration.proofs.block.read_settings.Goals.{After-at_most-count, After-judge_settings}
 
 -- The list of jobs, and their number.
 module _ (c : After-at_most-count) where
   abbrev jobs : List Job
-  jobs = take c.args.n c.args.table
-
-  abbrev low : ℕ
-  low = c.args.range.low
-
-  abbrev high : ℕ
-  high = c.args.range.high
+  jobs = listed c.args.call.jobs
 
   abbrev block : List ℕ
   block = c.args.configuration.now
 
   abbrev tests : List Setting → Tests
-  tests records = setting_tests jobs low high records
+  tests records = setting_tests jobs c.args.call.range.low c.args.call.range.high records
 
   size : length jobs ≡ c.at_most-count.result
   size =
       let a = c.args in
-      cut-length a.table most_jobs a.n _ (search rules) c.at_most-count.ensures
+      cut-length a.call.jobs.table most_jobs a.call.jobs.count _ (search rules) c.at_most-count.ensures
 
 pub returns-then-configuration-count : goal.returns-then-configuration-count
 unfolding read_settings
 returns-then-configuration-count c =
-    c.configuration_refused.ensures ∙ block_size setting_size setting_of blank_setting most_jobs (length (jobs (goal.at.returns-then-configuration-count c).After-at_most-count)) (block (goal.at.returns-then-configuration-count c).After-at_most-count) (tests (goal.at.returns-then-configuration-count c).After-at_most-count) _ (size (goal.at.returns-then-configuration-count c).After-at_most-count) c.if-configuration-count.true
+    let a = (goal.at.returns-then-configuration-count c).After-at_most-count in
+    block_size setting_size setting_of blank_setting most_jobs (length (jobs a)) (block a) (tests a) _ (size a) c.if-configuration-count.true
 
--- What was judged, for the list of jobs.
-judged : (c : After-judge_settings-judged) → verdict c.judge_settings-judged.result ≡ answer (tests (goal.at.After-judge_settings-judged c).After-at_most-count (take c.at_most-count.result c.decode-settings.result)) tt
-judged c =
-    let a = c.args in
-    c.judge_settings-judged.ensures
-    ∙ ap (λ (l : List Job). answer (setting_tests l (low (goal.at.After-judge_settings-judged c).After-at_most-count) (high (goal.at.After-judge_settings-judged c).After-at_most-count) (take c.at_most-count.result c.decode-settings.result)) tt) (cut-take a.table most_jobs a.n c.at_most-count.result (search rules) c.at_most-count.ensures)
+-- What was read, and what was judged for the list of jobs.
+module _ (c : After-judge_settings) where
+  abbrev count : ℕ
+  count = c.at_most-count.result
 
-pub returns-in-Refused : goal.returns-in-Refused
+  made : c.read-table.result ≡ setting_table (settings_in count (block (goal.at.After-judge_settings c).After-at_most-count))
+  made =
+      c.read-table.ensures
+      ∙ ap (λ (n : ℕ). setting_table (settings_in n (block (goal.at.After-judge_settings c).After-at_most-count))) (omega (arith, c.if-configuration-count.false, c.at_most-count.ensures))
+
+  judged : verdict c.judge_settings.result ≡ answer (tests (goal.at.After-judge_settings c).After-at_most-count (take count c.read-table.result)) tt
+  judged =
+      let a = (goal.at.After-judge_settings c).After-at_most-count in
+      c.judge_settings.ensures
+      ∙ ap (λ (l : List Setting). answer (tests a l) tt) (sym (cut-take c.read-table.result most_jobs c.args.call.jobs.count count (search rules) c.at_most-count.ensures))
+
+pub returns-in_err-judge_settings : goal.returns-in_err-judge_settings
 unfolding read_settings
-returns-in-Refused c =
-    c.configuration_refused-in-Refused.ensures
-    ∙ block-turned setting_size setting_of blank_setting most_jobs (length (jobs (goal.at.returns-in-Refused c).After-at_most-count)) (block (goal.at.returns-in-Refused c).After-at_most-count) (tests (goal.at.returns-in-Refused c).After-at_most-count) _ (size (goal.at.returns-in-Refused c).After-at_most-count) c.if-configuration-count.false _ c.decode-settings.ensures _ (judged (goal.at.returns-in-Refused c).After-judge_settings-judged) _ c.in-Refused.is
+returns-in_err-judge_settings c =
+    let a = (goal.at.returns-in_err-judge_settings c).After-at_most-count in
+    let j = (goal.at.returns-in_err-judge_settings c).After-judge_settings in
+    let p = err_from_is_err_and c.from_residual.result c.from_residual.ensures.1 in
+    rw (p.1, p.2)
+    (block-turned setting_size setting_of blank_setting most_jobs (length (jobs a)) (block a) (tests a) _ (size a) c.if-configuration-count.false _ (made j) _ (judged j) _ c.in_err-judge_settings.was)
 
 pub returns : goal.returns
 unfolding read_settings
 returns c =
-    block_read setting_size setting_of blank_setting most_jobs (length (jobs (goal.at.returns c).After-at_most-count)) (block (goal.at.returns c).After-at_most-count) (tests (goal.at.returns c).After-at_most-count) _ (size (goal.at.returns c).After-at_most-count) c.if-configuration-count.false _ c.decode-settings.ensures _ (judged (goal.at.returns c).After-judge_settings-judged) c.in_default.is
+    let a = (goal.at.returns c).After-at_most-count in
+    let j = (goal.at.returns c).After-judge_settings in
+    block_read setting_size setting_of blank_setting most_jobs (length (jobs a)) (block a) (tests a) _ (size a) c.if-configuration-count.false _ (made j) _ (judged j) _ c.in_ok-judge_settings.was

@@ -12,8 +12,8 @@ use Rattle.configuration.proofs.judge.all_ok.Goals as goal
 pub returns : goal.returns
 returns c =
     let a = c.args in
-    let count = min a.n most_jobs in
-    let size : length a.jobs ≡ most_jobs = search rules in
+    let count = min a.call.jobs.count most_jobs in
+    let size : length a.call.jobs.table ≡ most_jobs = search rules in
     ap₂ eqb c.first_faulty.ensures c.at_most.ensures
-    ∙ sym (every-failing (setting_ok a.rule count a.jobs a.range.low a.range.high a.settings) count)
-    ∙ ok-table a.jobs a.settings most_jobs a.n count size refl a.rule a.range.low a.range.high
+    ∙ sym (every-failing (setting_ok a.rule count a.call.jobs.table a.call.range.low a.call.range.high a.settings) count)
+    ∙ ok-table a.call.jobs.table a.settings most_jobs a.call.jobs.count count size refl a.rule a.call.range.low a.call.range.high

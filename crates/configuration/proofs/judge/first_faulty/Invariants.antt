@@ -1,4 +1,3 @@
-use Prim.Native.Nat.{◌≤◌, ◌-◌}
 use mathlib.Core.Path.{◌≡◌}
 use mathlib.Core.Bool.{true}
 use Rattle.sets.specs.Places.{every}
@@ -6,7 +5,4 @@ use Rattle.configuration.specs.Configuration.{setting_ok}
 use Rattle.configuration.proofs.judge.first_faulty.Given as goal
 
 abbrev pub invariant-loop-i : goal.invariant-loop-i
-invariant-loop-i l = (l.i ≤ l.count) × (every (setting_ok l.rule l.count l.jobs l.range.low l.range.high l.settings) l.i ≡ true)
-
-abbrev pub decreases-loop-i : goal.decreases-loop-i
-decreases-loop-i l = l.count - l.i
+invariant-loop-i l = every (setting_ok l.rule l.count l.jobs l.call.range.low l.call.range.high l.settings) l.i ≡ true

@@ -1,10 +1,7 @@
-use Prim.Native.Nat.{◌≤◌, ◌-◌}
+use Prim.Native.Nat.{◌≤◌}
 use mathlib.Core.Path.{◌≡◌}
 use Rattle.configuration.specs.Configuration.{sharing}
 use Rattle.configuration.proofs.judge.on_level.Given as goal
 
 abbrev pub invariant-loop-i : goal.invariant-loop-i
-invariant-loop-i l = (l.i ≤ l.n) × (l.jobs ≤ l.i) × (l.jobs ≡ sharing l.i l.settings l.level)
-
-abbrev pub decreases-loop-i : goal.decreases-loop-i
-decreases-loop-i l = l.n - l.i
+invariant-loop-i l = (l.jobs ≤ l.i) × (l.jobs ≡ sharing l.i l.settings l.level)

@@ -10,4 +10,4 @@ returns-then-job-eq0 c = (sym (simp (c.if-job-eq0.true, div-zero)), omega arith)
 
 pub returns : goal.returns
 unfolding utilisation
-returns c = (c.at_most.ensures, omega (arith, c.at_most.ensures))
+returns c = (c.min.ensures, omega (arith, c.min.ensures))

@@ -14,13 +14,13 @@ use Rattle.finishes.proofs.capacity.utilisations_of.Goals as goal
 
 pub loop-i-init : goal.loop-i-init
 unfolding list_of
-loop-i-init c = (search rules, refl)
+loop-i-init c = refl
 
 pub loop-i-preserved : goal.loop-i-preserved
 loop-i-preserved c =
     let l = c.loop-i in
     let a = c.args in
-    (search rules, list-next (λ k. utilisation (job_at a.jobs k)) most_jobs l.i 0 l.utilisations c.utilisation.result (omega arith) l.invariant.1 c.utilisation.ensures.0)
+    list-next (λ k. utilisation (job_at a.jobs k)) most_jobs l.i 0 l.utilisations c.utilisation.result (search rules) l.invariant c.utilisation.ensures.0
 
 pub returns : goal.returns
 returns c =
@@ -29,4 +29,4 @@ returns c =
     let f : ℕ → ℕ = λ k. utilisation (job_at a.jobs k) in
     let eight : length a.jobs ≡ most_jobs = search rules in
     let e : l.i ≡ length a.jobs = omega arith in
-    l.invariant.1 ∙ ap (λ (n : ℕ). table most_jobs 0 (list_of f n)) e ∙ table-full most_jobs 0 (list_of f (length a.jobs)) (list_length f (length a.jobs) ∙ eight)
+    l.invariant ∙ ap (λ (n : ℕ). table most_jobs 0 (list_of f n)) e ∙ table-full most_jobs 0 (list_of f (length a.jobs)) (list_length f (length a.jobs) ∙ eight)

@@ -1,4 +1,3 @@
-use Prim.Native.Nat.{◌-◌, ◌≤◌}
 use mathlib.Core.Path.{◌≡◌}
 use Rattle.sets.specs.Places.{list_of}
 use Rattle.records.specs.Limits.{most_jobs}
@@ -8,7 +7,4 @@ use Rattle.finishes.specs.Finishes.{utilisation}
 use Rattle.finishes.proofs.capacity.utilisations_of.Given as goal
 
 abbrev pub invariant-loop-i : goal.invariant-loop-i
-invariant-loop-i l = (l.i ≤ most_jobs) × (l.utilisations ≡ table most_jobs 0 (list_of (λ k. utilisation (job_at l.jobs k)) l.i))
-
-abbrev pub decreases-loop-i : goal.decreases-loop-i
-decreases-loop-i l = most_jobs - l.i
+invariant-loop-i l = (l.utilisations ≡ table most_jobs 0 (list_of (λ k. utilisation (job_at l.fn.jobs k)) l.i))

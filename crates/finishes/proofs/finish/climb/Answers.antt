@@ -1,6 +1,5 @@
 use Prim.Native.Nat.{ℕ, suc, ◌+◌, ◌*◌, ◌/◌, max}
-use mathlib.Core.Path.{◌≡◌, refl, sym, ◌∙◌, ap, ap₂}
-use native.Mathlib.Nat.{le_refl}
+use mathlib.Core.Path.{◌≡◌, sym, ◌∙◌, ap, ap₂}
 use native.Mathlib.Omega.{arith}
 use Rattle.sets.specs.Sets.{has}
 use Rattle.response.specs.Demand.{interference}
@@ -9,9 +8,6 @@ use Rattle.finishes.proofs.Climbing.{loop-past, loop-found, loop-falls, loop-ris
 use Rattle.finishes.proofs.finish.climb.Invariants.{demand, estimate}
 use Rattle.finishes.proofs.finish.climb.Goals as goal
 use Rattle.finishes.proofs.finish.climb.Goals.{After-works_of-works}
-
-pub loop-t-init : goal.loop-t-init
-loop-t-init c = (refl, le_refl _)
 
 -- In a turn: the demand at t, and the part of it with long periods.
 module _ (c : After-works_of-works) where
@@ -41,27 +37,15 @@ returns-then-next-t c =
     let l = c.loop-t in
     (sym (l.invariant.0 ∙ loop-falls (f (goal.at.returns-then-next-t c).After-works_of-works) (g (goal.at.returns-then-next-t c).After-works_of-works) _ (omega (arith, c.loop-t-test.true)) (omega (arith, next (goal.at.returns-then-next-t c).After-works_of-works, c.if-next-t.true)) (λ e. c.if-next-t-2.false (next (goal.at.returns-then-next-t c).After-works_of-works ∙ e))), omega arith, λ e. absurd (omega arith))
 
-pub overflow_mul-part : goal.overflow_mul-part
-overflow_mul-part c =
-    omega (arith, c.works_of-works.ensures.2, c.requires.2)
-
-pub overflow_add-part-in-loop-t : goal.overflow_add-part-in-loop-t
-overflow_add-part-in-loop-t c =
-    omega (arith, c.works_of-works.ensures.2, c.requires.1, c.requires.2)
-
-pub loop-t-smaller : goal.loop-t-smaller
-loop-t-smaller c =
-    omega (arith, c.later-t.ensures, c.if-next-t.false, c.loop-t-test.true)
-
 pub loop-t-preserved : goal.loop-t-preserved
 loop-t-preserved c =
     let l = c.loop-t in
     let a = c.args in
-    let moved : c.later-t.result ≡ max (f (goal.at.loop-t-preserved c).After-works_of-works (t (goal.at.loop-t-preserved c).After-works_of-works)) (g (goal.at.loop-t-preserved c).After-works_of-works (t (goal.at.loop-t-preserved c).After-works_of-works)) = c.later-t.ensures ∙ ap₂ max (next (goal.at.loop-t-preserved c).After-works_of-works) (ap (λ (x : ℕ). (x * whole + a.carry) / a.spare) (part (goal.at.loop-t-preserved c).After-works_of-works)) in (
+    let moved : c.max-t.result ≡ max (f (goal.at.loop-t-preserved c).After-works_of-works (t (goal.at.loop-t-preserved c).After-works_of-works)) (g (goal.at.loop-t-preserved c).After-works_of-works (t (goal.at.loop-t-preserved c).After-works_of-works)) = c.max-t.ensures ∙ ap₂ max (next (goal.at.loop-t-preserved c).After-works_of-works) (ap (λ (x : ℕ). (x * whole + a.carry) / a.spare) (part (goal.at.loop-t-preserved c).After-works_of-works)) in (
       l.invariant.0
           ∙ loop-rises (f (goal.at.loop-t-preserved c).After-works_of-works) (g (goal.at.loop-t-preserved c).After-works_of-works) _ (omega (arith, c.loop-t-test.true)) (omega (arith, next (goal.at.loop-t-preserved c).After-works_of-works, c.if-next-t.false))
           ∙ sym (ap (climb (f (goal.at.loop-t-preserved c).After-works_of-works) (g (goal.at.loop-t-preserved c).After-works_of-works) a.limit (suc a.limit)) moved),
-      omega (arith, c.later-t.ensures, c.if-next-t.false, l.invariant.1),
+      omega (arith, c.max-t.ensures, c.if-next-t.false, l.invariant.1),
     )
 
 pub returns : goal.returns

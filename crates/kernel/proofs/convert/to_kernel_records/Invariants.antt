@@ -1,4 +1,3 @@
-use Prim.Native.Nat.{◌-◌, ◌≤◌}
 use mathlib.Core.Path.{◌≡◌}
 use mathlib.Core.List.{map}
 use lib.ListN.{take}
@@ -6,7 +5,4 @@ use Rattle.kernel.specs.KernelRecords.{to_kernel_record, kernel_table}
 use Rattle.kernel.proofs.convert.to_kernel_records.Given as goal
 
 abbrev pub invariant-loop-i : goal.invariant-loop-i
-invariant-loop-i l = (l.i ≤ l.count) × (l.kernels ≡ kernel_table (map (to_kernel_record l.highest) (take l.i l.settings)))
-
-abbrev pub decreases-loop-i : goal.decreases-loop-i
-decreases-loop-i l = l.count - l.i
+invariant-loop-i l = l.kernels ≡ kernel_table (map (to_kernel_record l.highest) (take l.i l.settings))

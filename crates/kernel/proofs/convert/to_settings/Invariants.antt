@@ -1,4 +1,3 @@
-use Prim.Native.Nat.{◌-◌, ◌≤◌}
 use mathlib.Core.Path.{◌≡◌}
 use mathlib.Core.List.{map}
 use lib.ListN.{take}
@@ -7,7 +6,4 @@ use Rattle.kernel.specs.KernelRecords.{to_setting}
 use Rattle.kernel.proofs.convert.to_settings.Given as goal
 
 abbrev pub invariant-loop-i : goal.invariant-loop-i
-invariant-loop-i l = (l.i ≤ l.count) × (l.settings ≡ setting_table (map (to_setting l.highest) (take l.i l.kernels)))
-
-abbrev pub decreases-loop-i : goal.decreases-loop-i
-decreases-loop-i l = l.count - l.i
+invariant-loop-i l = l.settings ≡ setting_table (map (to_setting l.highest) (take l.i l.kernels))

@@ -1,31 +1,31 @@
+use native.Mathlib.Omega.{arith}
 use Prim.Native.Nat.{ℕ}
 use mathlib.Core.Path.{sym, ap, ◌∙◌}
 use borrow.Author.Tests.{not-true, not-false}
 use Rattle.sets.specs.Places.{failing}
 use Rattle.sets.proofs.Places.{every-none, every-on, every-end, failing-stop, failing-none}
 use Rattle.kernel.specs.KernelConfiguration.{kernel_ok}
-use borrow.Author.Rules.{rules}
 use Rattle.kernel.proofs.judge.first_faulty.Goals as goal
 use Rattle.kernel.proofs.judge.first_faulty.Goals.{After-at_most-count}
 
 pub loop-i-init : goal.loop-i-init
-loop-i-init c = (search rules, every-none _)
+loop-i-init c = every-none _
 
 -- The first fault for a count is the one for the count that was asked for.
 abbrev fault : (c : After-at_most-count) → ℕ → ℕ
-fault c k = let a = c.args in failing (kernel_ok a.rule k a.jobs a.range.low a.range.high a.highest a.kernels) k
+fault c k = let a = c.args in failing (kernel_ok a.rule k a.call.jobs.table a.call.range.low a.call.range.high a.highest a.kernels) k
 
 pub returns-then-not-kernel_ok : goal.returns-then-not-kernel_ok
 returns-then-not-kernel_ok c =
     let l = c.loop-i in
-    sym (failing-stop _ _ l.i c.loop-i-test.true l.invariant.1 (sym c.kernel_ok.ensures ∙ not-true _ c.if-not-kernel_ok.true-raw)) ∙ ap (fault (goal.at.returns-then-not-kernel_ok c).After-at_most-count) c.at_most-count.ensures
+    sym (failing-stop _ _ l.i c.loop-i-test.true l.invariant (sym c.kernel_ok.ensures ∙ not-true _ c.if-not-kernel_ok.true-raw)) ∙ ap (fault (goal.at.returns-then-not-kernel_ok c).After-at_most-count) c.at_most-count.ensures
 
 pub loop-i-preserved : goal.loop-i-preserved
 loop-i-preserved c =
     let l = c.loop-i in
-    (search rules, every-on _ l.i l.invariant.1 (sym c.kernel_ok.ensures ∙ not-false _ c.if-not-kernel_ok.false-raw))
+    every-on _ l.i l.invariant (sym c.kernel_ok.ensures ∙ not-false _ c.if-not-kernel_ok.false-raw)
 
 pub returns : goal.returns
 returns c =
     let l = c.loop-i in
-    sym (failing-none _ _ (every-end _ l.invariant.0 c.loop-i-test.false l.invariant.1)) ∙ ap (fault (goal.at.returns c).After-at_most-count) c.at_most-count.ensures
+    sym (failing-none _ _ (every-end _ (omega arith) c.loop-i-test.false l.invariant)) ∙ ap (fault (goal.at.returns c).After-at_most-count) c.at_most-count.ensures

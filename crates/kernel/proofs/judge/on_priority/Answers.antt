@@ -9,7 +9,7 @@ use Rattle.kernel.proofs.judge.on_priority.Goals as goal
 use Rattle.kernel.proofs.judge.on_priority.Goals.{then-own-priority, else-own-priority}
 
 pub loop-i-init : goal.loop-i-init
-loop-i-init c = (search rules, search rules, sym (count_none _))
+loop-i-init c = (search rules, sym (count_none _))
 
 pub loop-i-preserved : goal.loop-i-preserved
 loop-i-preserved c =
@@ -17,8 +17,8 @@ loop-i-preserved c =
     let a = c.args in
     let p = on_priority a.kernels a.priority.0 in
     elim c.if-own-priority.branch [
-      | then-own-priority w ↦ (omega arith, omega arith, w.jobs-is ∙ ap (λ (m : ℕ). m + 1) l.invariant.2 ∙ sym (count-in l.i p refl (eq-eqb _ _ w.if-own-priority.true)))
-      | else-own-priority w ↦ (omega arith, omega arith, w.jobs-is ∙ l.invariant.2 ∙ sym (count-out l.i p refl (ne_eqb _ _ w.if-own-priority.false)))
+      | then-own-priority w ↦ (omega arith, w.jobs-is ∙ ap (λ (m : ℕ). m + 1) l.invariant.1 ∙ sym (count-in l.i p refl (eq-eqb _ _ w.if-own-priority.true)))
+      | else-own-priority w ↦ (omega arith, w.jobs-is ∙ l.invariant.1 ∙ sym (count-out l.i p refl (ne_eqb _ _ w.if-own-priority.false)))
     ]
 
 pub returns : goal.returns
@@ -26,4 +26,4 @@ returns c =
     let l = c.loop-i in
     let a = c.args in
     let e : l.i ≡ a.n = omega arith in
-    l.invariant.2 ∙ ap (λ (k : ℕ). sharing_priority k a.kernels a.priority.0) e
+    l.invariant.1 ∙ ap (λ (k : ℕ). sharing_priority k a.kernels a.priority.0) e

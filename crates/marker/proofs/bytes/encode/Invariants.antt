@@ -1,4 +1,4 @@
-use Prim.Native.Nat.{◌*◌, ◌≤◌, ◌-◌}
+use Prim.Native.Nat.{◌*◌}
 use mathlib.Core.Path.{◌≡◌}
 use mathlib.Core.List.{◌++◌}
 use lib.ListN.{length, drop, take}
@@ -7,7 +7,4 @@ use Rattle.marker.specs.Marks.{bound_size}
 use Rattle.marker.proofs.bytes.encode.Given as goal
 
 abbrev pub invariant-loop-i : goal.invariant-loop-i
-invariant-loop-i l = (l.i ≤ l.n) × (length l.output ≡ length l.initial.output) × (l.output ≡ flat word_bytes (take l.i l.bounds) ++ drop (bound_size * l.i) l.initial.output)
-
-abbrev pub decreases-loop-i : goal.decreases-loop-i
-decreases-loop-i l = l.n - l.i
+invariant-loop-i l = (length l.output ≡ length l.initial.output) × (l.output ≡ flat word_bytes (take l.i l.fn.bounds) ++ drop (bound_size * l.i) l.initial.output)

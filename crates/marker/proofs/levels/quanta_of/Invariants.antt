@@ -1,4 +1,3 @@
-use Prim.Native.Nat.{◌≤◌, ◌-◌}
 use mathlib.Core.Path.{◌≡◌}
 use Rattle.sets.specs.Places.{list_of}
 use Rattle.records.specs.Limits.{most_jobs}
@@ -7,7 +6,4 @@ use Rattle.configuration.specs.Settings.{setting_at}
 use Rattle.marker.proofs.levels.quanta_of.Given as goal
 
 abbrev pub invariant-loop-i : goal.invariant-loop-i
-invariant-loop-i l = (l.i ≤ most_jobs) × (l.quanta ≡ table most_jobs 0 (list_of (λ k. (setting_at l.settings k).quantum) l.i))
-
-abbrev pub decreases-loop-i : goal.decreases-loop-i
-decreases-loop-i l = most_jobs - l.i
+invariant-loop-i l = l.quanta ≡ table most_jobs 0 (list_of (λ k. (setting_at l.fn.settings k).quantum) l.i)

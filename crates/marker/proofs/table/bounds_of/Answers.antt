@@ -30,7 +30,7 @@ module _ (c : After-plain-workload) where
 
 pub loop-k-init : goal.loop-k-init
 unfolding list_of
-loop-k-init c = (search rules, refl)
+loop-k-init c = refl
 
 pub bound_of-requires : goal.bound_of-requires
 bound_of-requires c =
@@ -40,7 +40,7 @@ bound_of-requires c =
 pub loop-k-preserved : goal.loop-k-preserved
 loop-k-preserved c =
     let l = c.loop-k in
-    (search rules, list-next (bound_at (take (count (goal.at.loop-k-preserved c).After-plain-workload) c.plain-workload.result.jobs) c.args.settings) most_jobs l.k 0 l.bounds c.bound_of.result (omega (arith, c.at_most-count.ensures)) l.invariant.1 c.bound_of.ensures)
+    list-next (bound_at (take (count (goal.at.loop-k-preserved c).After-plain-workload) c.plain-workload.result.jobs) c.args.settings) most_jobs l.k 0 l.bounds c.bound_of.result (omega (arith, c.at_most-count.ensures)) l.invariant c.bound_of.ensures
 
 pub returns : goal.returns
 returns c =
@@ -49,6 +49,6 @@ returns c =
     let cut = c.at_most-count.ensures in
     let jobs = take (count (goal.at.returns c).After-plain-workload) a.jobs in
     let e : l.k ≡ length jobs = omega (arith, length-take-le (count (goal.at.returns c).After-plain-workload) a.jobs (omega (arith, cut, size (goal.at.returns c).After-plain-workload))) in
-    l.invariant.1
+    l.invariant
     ∙ ap₂ (λ (t : List Job) (k : ℕ). table most_jobs 0 (list_of (bound_at (take (count (goal.at.returns c).After-plain-workload) t) a.settings) k)) (jobs-are (goal.at.returns c).After-plain-workload) e
     ∙ ap (table most_jobs 0) (bounds-table a.jobs a.settings most_jobs a.n (count (goal.at.returns c).After-plain-workload) (size (goal.at.returns c).After-plain-workload) cut)

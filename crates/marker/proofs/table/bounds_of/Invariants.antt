@@ -1,4 +1,3 @@
-use Prim.Native.Nat.{◌-◌, ◌≤◌}
 use mathlib.Core.Path.{◌≡◌}
 use lib.ListN.{take}
 use Rattle.sets.specs.Places.{list_of}
@@ -8,7 +7,4 @@ use Rattle.marker.specs.Bounds.{bound_at}
 use Rattle.marker.proofs.table.bounds_of.Given as goal
 
 abbrev pub invariant-loop-k : goal.invariant-loop-k
-invariant-loop-k l = (l.k ≤ l.count) × (l.bounds ≡ table most_jobs 0 (list_of (bound_at (take l.count l.workload.jobs) l.settings) l.k))
-
-abbrev pub decreases-loop-k : goal.decreases-loop-k
-decreases-loop-k l = l.count - l.k
+invariant-loop-k l = l.bounds ≡ table most_jobs 0 (list_of (bound_at (take l.count l.workload.jobs) l.settings) l.k)

@@ -31,23 +31,23 @@ module _ (c : After-plain-workload) where
 
 pub loop-k-init : goal.loop-k-init
 unfolding list_of
-loop-k-init c = (search rules, refl)
+loop-k-init c = refl
 
 pub parts_in-requires : goal.parts_in-requires
 parts_in-requires c =
-    (omega (arith, c.at_most-count.ensures), omega (arith, c.loop-k-test.true), c.plain-workload.ensures ∙ ap plain_workload (sym (jobs-are (goal.at.parts_in-requires c).After-plain-workload)))
+    (omega (arith, c.at_most-count.ensures), omega arith, c.plain-workload.ensures ∙ ap plain_workload (sym (jobs-are (goal.at.parts_in-requires c).After-plain-workload)))
 
 pub loop-k-preserved : goal.loop-k-preserved
 loop-k-preserved c =
     let l = c.loop-k in
-    (omega (arith, c.loop-k-test.true), list-next (parts_in (take (count (goal.at.loop-k-preserved c).After-plain-workload) c.plain-workload.result.jobs) c.args.settings) most_jobs l.k no_parts l.parts c.parts_in.result (omega (arith, c.loop-k-test.true, c.at_most-count.ensures)) l.invariant.1 c.parts_in.ensures)
+    list-next (parts_in (take (count (goal.at.loop-k-preserved c).After-plain-workload) c.plain-workload.result.jobs) c.args.settings) most_jobs l.k no_parts l.parts c.parts_in.result (omega (arith, c.at_most-count.ensures)) l.invariant c.parts_in.ensures
 
 pub returns : goal.returns
 returns c =
     let l = c.loop-k in
     let a = c.args in
     let cut = c.at_most-count.ensures in
-    let e : l.k ≡ length (take (count (goal.at.returns c).After-plain-workload) a.jobs) = omega (arith, l.invariant.0, c.loop-k-test.false, length-take-le (count (goal.at.returns c).After-plain-workload) a.jobs (omega (arith, cut, size (goal.at.returns c).After-plain-workload))) in
-    l.invariant.1
+    let e : l.k ≡ length (take (count (goal.at.returns c).After-plain-workload) a.jobs) = omega (arith, length-take-le (count (goal.at.returns c).After-plain-workload) a.jobs (omega (arith, cut, size (goal.at.returns c).After-plain-workload))) in
+    l.invariant
     ∙ ap₂ (λ (t : List Job) (k : ℕ). table most_jobs no_parts (list_of (parts_in (take (count (goal.at.returns c).After-plain-workload) t) a.settings) k)) (jobs-are (goal.at.returns c).After-plain-workload) e
     ∙ ap (table most_jobs no_parts) (breakdown-table a.jobs a.settings most_jobs a.n (count (goal.at.returns c).After-plain-workload) (size (goal.at.returns c).After-plain-workload) cut)

@@ -1,4 +1,3 @@
-use Prim.Native.Nat.{◌-◌, ◌≤◌}
 use mathlib.Core.Path.{◌≡◌}
 use lib.ListN.{take}
 use Rattle.sets.specs.Places.{list_of}
@@ -9,7 +8,4 @@ use Rattle.parts.specs.Breakdowns.{parts_in}
 use Rattle.parts.proofs.table.breakdown_of.Given as goal
 
 abbrev pub invariant-loop-k : goal.invariant-loop-k
-invariant-loop-k l = (l.k ≤ l.count) × (l.parts ≡ table most_jobs no_parts (list_of (parts_in (take l.count l.workload.jobs) l.settings) l.k))
-
-abbrev pub decreases-loop-k : goal.decreases-loop-k
-decreases-loop-k l = l.count - l.k
+invariant-loop-k l = l.parts ≡ table most_jobs no_parts (list_of (parts_in (take l.count l.workload.jobs) l.settings) l.k)

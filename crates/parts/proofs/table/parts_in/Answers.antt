@@ -17,10 +17,6 @@ returns-then-level-eq0 c =
     let a = c.args in
     sym (parts-unplaced (take a.n a.workload.jobs) a.settings a.k c.if-level-eq0.true)
 
-pub parts_of-requires : goal.parts_of-requires
-parts_of-requires c =
-    (c.requires.2, omega (arith, c.requires.0, c.requires.1))
-
 pub returns : goal.returns
 returns c =
     let above = c.level_set-above in
@@ -28,8 +24,8 @@ returns c =
     let eight : length a.workload.jobs ≡ most_jobs = search rules in
     let cut : min a.n most_jobs ≡ a.n = omega (arith, c.requires.0) in
     let level = level_at a.settings a.k in
-    c.parts_of.ensures
-    ∙ ap (λ (q : List ℕ). parts a.workload.jobs q (has c.level_set-layer.result) (has above.result) a.k) c.quanta_of-quanta.ensures
+    c.parts.ensures
+    ∙ ap (λ (q : List ℕ). parts a.workload.jobs q (has c.level_set-layer.result) (has above.result) a.k) c.quanta_of.ensures
     ∙ parts-code a.workload.jobs a.settings a.n a.k (omega (arith, c.requires.0)) c.requires.1 c.level_set-layer.result above.result
     (subst (λ (m : ℕ). Collects m (layer_of a.settings level) c.level_set-layer.result) cut c.level_set-layer.ensures)
     (subst (λ (m : ℕ). Collects m (above_of a.settings level) above.result) cut above.ensures) c.if-level-eq0.false

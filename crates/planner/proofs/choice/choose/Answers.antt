@@ -1,7 +1,6 @@
-use Prim.Native.Nat.{ℕ, suc, ◌+◌, ◌^◌, ◌≤◌, ◌<◌}
+use Prim.Native.Nat.{ℕ, suc, ◌+◌, ◌-◌, ◌^◌, ◌≤◌, ◌<◌}
 use mathlib.Core.Path.{◌≡◌, refl, sym, ap, ◌∙◌}
 use mathlib.Core.List.{List}
-use native.Mathlib.Numerals.{add-one}
 use native.Mathlib.Omega.{arith}
 use lib.ListN.{length, take}
 use lib.Pow.{pow_mono}
@@ -27,7 +26,7 @@ first_of-alone-requires c = (c.requires.0, c.requires.1, c.requires.2.few)
 -- The sets of one job.
 module _ (c : After-first_of-alone) where
   abbrev question : Question
-  question = c.args.question
+  question = c.args.question.now
 
   abbrev left : ℕ
   left = c.args.left
@@ -48,14 +47,17 @@ returns-then-alone-ne0 c = alone-takes (goal.at.returns-then-alone-ne0 c).After-
 pub loop-size-init : goal.loop-size-init
 loop-size-init c = (omega arith, alone-misses (goal.at.loop-size-init c).After-first_of-alone c.if-alone-ne0.false)
 
--- A larger size.
+-- A larger size: those before it are tried.
 module _ (c : In-loop-size) where
-  below : c.loop-size.size < places
-  below =
-      omega (arith, c.loop-size-test.true, c.size-most.ensures, size-bound places (left (goal.at.In-loop-size c).After-first_of-alone) (omega (arith, c.requires.1, pow_mono c.requires.0.few)))
+  abbrev before : ℕ
+  before = c.loop-size.size - 1
 
-pub overflow_add-size : goal.overflow_add-size
-overflow_add-size c = omega (arith, below (goal.at.overflow_add-size c).In-loop-size)
+  next : suc before ≡ c.loop-size.size
+  next = omega (arith, c.loop-size.auto.size)
+
+  below : before < places
+  below =
+      omega (arith, c.loop-size-test.true, c.loop-size.auto.size, c.size-most.ensures, size-bound places (left (goal.at.In-loop-size c).After-first_of-alone) (omega (arith, c.requires.1, pow_mono c.requires.0.few)))
 
 module _ (c : After-subsets_of-found) where
   abbrev count : ℕ
@@ -85,32 +87,42 @@ module _ (c : After-first_of-choice) where
   room =
       omega (
         arith,
-        missed-few c.args.question c.requires.0 _ _ c.requires.2 c.args.left c.requires.1 c.loop-size.size c.loop-size.missed c.loop-size.invariant.1,
+        missed-few c.args.question.now c.requires.0 _ _ c.requires.2 c.args.left c.requires.1 _ c.loop-size.missed c.loop-size.invariant.1,
         c.first_of-choice.ensures.few,
         length-take-le (count (goal.at.After-first_of-choice c).After-subsets_of-found) c.subsets_of-found.result.sets (fits (goal.at.After-first_of-choice c).After-subsets_of-found),
         c.subsets_of-found.ensures.few,
       )
 
-  part-are : subsets c.args.left part ≡ heaviest_first (total (period_at (listed c.args.question))) c.args.left (suc c.loop-size.size)
+  part-are : subsets c.args.left part ≡ heaviest_first (total (period_at (listed c.args.question.now))) c.args.left (suc (before (goal.at.After-first_of-choice c).In-loop-size))
   part-are =
-      found-are c.args.question c.requires.0 _ _ c.requires.2 c.args.left c.requires.1 (c.loop-size.size + 1) c.subsets_of-found.result c.subsets_of-found.ensures
-      ∙ ap (heaviest_first (total (period_at (listed c.args.question))) c.args.left) (add-one c.loop-size.size)
+      found-are c.args.question.now c.requires.0 _ _ c.requires.2 c.args.left c.requires.1 c.loop-size.size c.subsets_of-found.result c.subsets_of-found.ensures
+      ∙ ap (heaviest_first (total (period_at (listed c.args.question.now))) c.args.left) (sym (next (goal.at.After-first_of-choice c).In-loop-size))
+
+  -- None of them can be taken.
+  misses : c.first_of-choice.result.set ≡ 0
+      → Reached (takeable c.args.question.now c.args.left) (subsets c.args.left (by_periods (listed c.args.question.now))) (beyond (total (period_at (listed c.args.question.now))) c.args.left (c.loop-size.size + 1 - 1)) (c.loop-size.missed + c.first_of-choice.result.considered)
+  misses none =
+      size-misses c.args.question.now c.requires.0 _ _ c.requires.2 c.args.left c.requires.1 _ _ c.loop-size.invariant.1 (below (goal.at.After-first_of-choice c).In-loop-size) part part-are
+      c.first_of-choice.result c.first_of-choice.ensures none _ _ (omega (arith, next (goal.at.After-first_of-choice c).In-loop-size)) refl
 
 pub overflow_add-missed : goal.overflow_add-missed
 overflow_add-missed c = omega (arith, room (goal.at.overflow_add-missed c).After-first_of-choice)
 
 pub returns-then-choice-ne0 : goal.returns-then-choice-ne0
 returns-then-choice-ne0 c =
-    size-takes c.args.question c.requires.0 _ _ c.requires.2 c.args.left c.requires.1 _ _ c.loop-size.invariant.1 (below (goal.at.returns-then-choice-ne0 c).In-loop-size) (part (goal.at.returns-then-choice-ne0 c).After-first_of-choice) (part-are (goal.at.returns-then-choice-ne0 c).After-first_of-choice)
+    size-takes c.args.question.now c.requires.0 _ _ c.requires.2 c.args.left c.requires.1 _ _ c.loop-size.invariant.1 (below (goal.at.returns-then-choice-ne0 c).In-loop-size) (part (goal.at.returns-then-choice-ne0 c).After-first_of-choice) (part-are (goal.at.returns-then-choice-ne0 c).After-first_of-choice)
     c.first_of-choice.result c.first_of-choice.ensures c.if-choice-ne0.true _ refl refl refl
 
 pub loop-size-preserved : goal.loop-size-preserved
 loop-size-preserved c = (
-  omega (arith, below (goal.at.loop-size-preserved c).In-loop-size),
-  size-misses c.args.question c.requires.0 _ _ c.requires.2 c.args.left c.requires.1 _ _ c.loop-size.invariant.1 (below (goal.at.loop-size-preserved c).In-loop-size) (part (goal.at.loop-size-preserved c).After-first_of-choice) (part-are (goal.at.loop-size-preserved c).After-first_of-choice)
-      c.first_of-choice.result c.first_of-choice.ensures c.if-choice-ne0.false _ _ (add-one c.loop-size.size) refl,
+  omega (arith, below (goal.at.loop-size-preserved c).In-loop-size, next (goal.at.loop-size-preserved c).In-loop-size),
+  misses (goal.at.loop-size-preserved c).After-first_of-choice c.if-choice-ne0.false,
 )
 
-pub returns : goal.returns
-returns c =
-    search-ends c.args.question c.requires.0 _ _ c.requires.2 c.args.left c.requires.1 _ _ c.loop-size.invariant.1 (omega (arith, c.loop-size-test.false, c.size-most.ensures)) _ refl refl
+pub returns-else-alone-ne0 : goal.returns-else-alone-ne0
+returns-else-alone-ne0 c =
+    search-ends c.args.question.now c.requires.0 _ _ c.requires.2 c.args.left c.requires.1 _ _ c.loop-size.invariant.1 (omega (arith, c.loop-size-test.false, c.size-most.ensures)) _ refl refl
+
+pub returns-else-choice-ne0 : goal.returns-else-choice-ne0
+returns-else-choice-ne0 c =
+    search-ends c.args.question.now c.requires.0 _ _ c.requires.2 c.args.left c.requires.1 _ _ (misses (goal.at.returns-else-choice-ne0 c).After-first_of-choice c.if-choice-ne0.false) (omega (arith, c.size-most.ensures)) _ refl refl

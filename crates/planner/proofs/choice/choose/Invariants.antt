@@ -9,7 +9,4 @@ use Rattle.planner.specs.Stages.{takeable}
 use Rattle.planner.proofs.choice.choose.Given as goal
 
 abbrev pub invariant-loop-size : goal.invariant-loop-size
-invariant-loop-size l = (l.size ≤ places) × Reached (takeable l.question l.left) (subsets l.left (by_periods (listed l.question))) (beyond (total (period_at (listed l.question))) l.left l.size) l.missed
-
-abbrev pub decreases-loop-size : goal.decreases-loop-size
-decreases-loop-size l = l.most - l.size
+invariant-loop-size l = (l.size - 1 ≤ places) × Reached (takeable l.question l.left) (subsets l.left (by_periods (listed l.question))) (beyond (total (period_at (listed l.question))) l.left (l.size - 1)) l.missed

@@ -17,22 +17,22 @@ use Rattle.planner.proofs.levels.bounds_with.Goals.{then-contains, else-contains
 
 pub loop-k-init : goal.loop-k-init
 unfolding list_of
-loop-k-init c = (omega arith, refl)
+loop-k-init c = refl
 
 pub loop-k-preserved : goal.loop-k-preserved
 loop-k-preserved c =
     let l = c.loop-k in
     let a = c.args in
-    let f = next-at a.question a.bounds a.set a.above a.quanta in
+    let f = next-at a.question.now a.bounds a.set a.above a.quanta in
     let test = c.contains.ensures in
-    let given : Bool → ℕ = λ b. cond b (bound (listed a.question) a.quanta (has a.set) (has a.above) l.k) (get_or a.bounds l.k 0) in
-    let value : c.if-contains.next ≡ f l.k = elim c.if-contains.branch [ then-contains w ↦ w.next-is ∙ w.bound.ensures ∙ asked-bound a.question a.set a.above c.requires a.quanta l.k (omega arith) ∙ sym (ap given (sym test ∙ w.if-contains.true)) | else-contains w ↦ w.next-is ∙ sym (ap given (sym test ∙ w.if-contains.false)) ]
+    let given : Bool → ℕ = λ b. cond b (bound (listed a.question.now) a.quanta (has a.set) (has a.above) l.k) (get_or a.bounds l.k 0) in
+    let value : c.if-contains.next ≡ f l.k = elim c.if-contains.branch [ then-contains w ↦ w.next-is ∙ w.bound.ensures ∙ asked-bound a.question.now a.set a.above c.requires a.quanta l.k (omega arith) ∙ sym (ap given (sym test ∙ w.if-contains.true)) | else-contains w ↦ w.next-is ∙ sym (ap given (sym test ∙ w.if-contains.false)) ]
     in
-    (omega arith, list-next f most_jobs l.k 0 l.next c.if-contains.next (omega arith) l.invariant.1 value)
+    list-next f most_jobs l.k 0 l.next c.if-contains.next (omega arith) l.invariant value
 
 pub returns : goal.returns
 returns c =
     let l = c.loop-k in
     let a = c.args in
-    let e : l.k ≡ a.question.n = omega arith in
-    l.invariant.1 ∙ ap (λ (k : ℕ). table most_jobs 0 (list_of (next-at a.question a.bounds a.set a.above a.quanta) k)) e
+    let e : l.k ≡ a.question.now.n = omega arith in
+    l.invariant ∙ ap (λ (k : ℕ). table most_jobs 0 (list_of (next-at a.question.now a.bounds a.set a.above a.quanta) k)) e

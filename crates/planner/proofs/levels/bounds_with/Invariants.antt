@@ -1,4 +1,4 @@
-use Prim.Native.Nat.{ℕ, ◌-◌, ◌≤◌}
+use Prim.Native.Nat.{ℕ}
 use mathlib.Core.Path.{◌≡◌}
 use mathlib.Core.Bool.{cond}
 use mathlib.Core.List.{List}
@@ -17,7 +17,4 @@ abbrev pub next-at : Question → List ℕ → ℕ → ℕ → List ℕ → ℕ 
 next-at question bounds set above quanta k = cond (has set k) (bound (listed question) quanta (has set) (has above) k) (get_or bounds k 0)
 
 abbrev pub invariant-loop-k : goal.invariant-loop-k
-invariant-loop-k l = (l.k ≤ l.question.n) × (l.next ≡ table most_jobs 0 (list_of (next-at l.question l.bounds l.set l.above l.quanta) l.k))
-
-abbrev pub decreases-loop-k : goal.decreases-loop-k
-decreases-loop-k l = l.question.n - l.k
+invariant-loop-k l = l.next ≡ table most_jobs 0 (list_of (next-at l.fn.question l.bounds l.set l.above l.quanta) l.k)

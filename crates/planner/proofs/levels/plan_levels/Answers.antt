@@ -18,18 +18,18 @@ short s = omega (arith, periods-length (listed s.args.question))
 
 pub loop-level-init : goal.loop-level-init
 loop-level-init c =
-    (omega arith, reaches-start c.args.question c.requires.0 (by_periods (listed c.args.question)) (short (goal.at.loop-level-init c).Start) c.start-progress.result c.start-progress.ensures)
+    reaches-start c.args.question c.requires.0 (by_periods (listed c.args.question)) (short (goal.at.loop-level-init c).Start) c.start-progress.result c.start-progress.ensures
 
 -- A turn's level is one past the next one's.
 below : (c : In-loop-level) → Reaches c.args.question (by_periods (listed c.args.question)) (suc (c.loop-level.level - 1)) c.loop-level.progress
 below c =
     let l = c.loop-level in
     let e : l.level ≡ suc (l.level - 1) = omega (arith, c.loop-level-test.true) in
-    subst (λ (m : ℕ). Reaches c.args.question (by_periods (listed c.args.question)) m l.progress) e l.invariant.1
+    subst (λ (m : ℕ). Reaches c.args.question (by_periods (listed c.args.question)) m l.progress) e l.invariant
 
 pub choose-choice-requires : goal.choose-choice-requires
 choose-choice-requires c =
-    let R = c.loop-level.invariant.1 in
+    let R = c.loop-level.invariant in
     (c.requires.0, omega (arith, R.less, ap (λ (p : Progress). p.left) R.shows), c.requires.1)
 
 pub overflow_add-progress : goal.overflow_add-progress
@@ -42,16 +42,12 @@ returns-then-choice-eq0 c =
 
 pub overflow_cast-level : goal.overflow_cast-level
 overflow_cast-level c =
-    omega (arith, c.loop-level.invariant.0, c.requires.0.few)
+    omega (arith, c.requires.0.few)
 
 pub place-progress-requires : goal.place-progress-requires
 place-progress-requires c =
     let w = reaches-inside c.args.question c.requires.0 (by_periods (listed c.args.question)) (short (goal.at.place-progress-requires c).Start) (c.loop-level.level - 1) c.loop-level.progress (below (goal.at.place-progress-requires c).In-loop-level) c.choose-choice.result c.choose-choice.ensures in
     (c.requires.0, w.0, w.1, reaches-room c.args.question c.requires.0 (by_periods (listed c.args.question)) (short (goal.at.place-progress-requires c).Start) (c.loop-level.level - 1) c.loop-level.progress (below (goal.at.place-progress-requires c).In-loop-level) c.choose-choice.result c.choose-choice.ensures)
-
-pub loop-level-smaller : goal.loop-level-smaller
-loop-level-smaller c =
-    omega (arith, c.loop-level-test.true)
 
 pub loop-level-preserved : goal.loop-level-preserved
 loop-level-preserved c =
@@ -62,10 +58,10 @@ loop-level-preserved c =
     let is = c.place-progress.ensures
     ∙ ap (λ (m : ℕ). progress_of (place (listed a.question) m r.set (take a.question.n r.quanta) (stage_of c.loop-level.progress)) (c.loop-level.progress.considered + r.considered)) e
     in
-    (omega (arith, c.loop-level.invariant.0), reaches-next a.question c.requires.0 (by_periods (listed a.question)) (short (goal.at.loop-level-preserved c).Start) v c.loop-level.progress (below (goal.at.loop-level-preserved c).In-loop-level) r c.choose-choice.ensures c.if-choice-eq0.false c.place-progress.result is)
+    reaches-next a.question c.requires.0 (by_periods (listed a.question)) (short (goal.at.loop-level-preserved c).Start) v c.loop-level.progress (below (goal.at.loop-level-preserved c).In-loop-level) r c.choose-choice.ensures c.if-choice-eq0.false c.place-progress.result is
 
 pub returns : goal.returns
 returns c =
     let l = c.loop-level in
     let e : l.level ≡ 0 = omega (arith, c.loop-level-test.false) in
-    reaches_end c.args.question c.requires.0 (by_periods (listed c.args.question)) (short (goal.at.returns c).Start) l.progress (subst (λ (m : ℕ). Reaches c.args.question (by_periods (listed c.args.question)) m l.progress) e l.invariant.1)
+    reaches_end c.args.question c.requires.0 (by_periods (listed c.args.question)) (short (goal.at.returns c).Start) l.progress (subst (λ (m : ℕ). Reaches c.args.question (by_periods (listed c.args.question)) m l.progress) e l.invariant)

@@ -17,24 +17,24 @@ use Rattle.planner.proofs.levels.settings_with.Goals.{then-contains, else-contai
 
 pub loop-k-init : goal.loop-k-init
 unfolding list_of
-loop-k-init c = (omega arith, refl)
+loop-k-init c = refl
 
 pub loop-k-preserved : goal.loop-k-preserved
 loop-k-preserved c =
     let l = c.loop-k in
     let a = c.args in
-    let f = next-at a.question a.settings a.level a.set a.quanta in
+    let f = next-at a.question.now a.settings a.level a.set a.quanta in
     let test = c.contains.ensures in
-    let id = (job_at a.question.workload.jobs l.k).id in
+    let id = (job_at a.question.now.workload.jobs l.k).id in
     let quantum = get_or a.quanta l.k 0 in
     let given : Bool → Setting = λ b. cond b (setting_in id a.level (size a.set) quantum) (setting_at a.settings l.k) in
     let value : c.if-contains.next ≡ f l.k = elim c.if-contains.branch [ then-contains w ↦ w.next-is ∙ w.setting_in.ensures ∙ ap (λ (m : ℕ). setting_in id a.level m quantum) c.size-size.ensures ∙ sym (ap given (sym test ∙ w.if-contains.true)) | else-contains w ↦ w.next-is ∙ sym (ap given (sym test ∙ w.if-contains.false)) ]
     in
-    (omega arith, list-next f most_jobs l.k blank_setting l.next c.if-contains.next (omega arith) l.invariant.1 value)
+    list-next f most_jobs l.k blank_setting l.next c.if-contains.next (omega arith) l.invariant value
 
 pub returns : goal.returns
 returns c =
     let l = c.loop-k in
     let a = c.args in
-    let e : l.k ≡ a.question.n = omega arith in
-    l.invariant.1 ∙ ap (λ (k : ℕ). setting_table (list_of (next-at a.question a.settings a.level a.set a.quanta) k)) e
+    let e : l.k ≡ a.question.now.n = omega arith in
+    l.invariant ∙ ap (λ (k : ℕ). setting_table (list_of (next-at a.question.now a.settings a.level a.set a.quanta) k)) e

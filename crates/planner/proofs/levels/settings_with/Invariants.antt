@@ -1,4 +1,4 @@
-use Prim.Native.Nat.{ℕ, ◌-◌, ◌≤◌}
+use Prim.Native.Nat.{ℕ}
 use mathlib.Core.Path.{◌≡◌}
 use mathlib.Core.Bool.{cond}
 use mathlib.Core.List.{List}
@@ -18,7 +18,4 @@ next-at question settings level set quanta k =
     cond (has set k) (setting_in (job_at question.workload.jobs k).id level (size set) (get_or quanta k 0)) (setting_at settings k)
 
 abbrev pub invariant-loop-k : goal.invariant-loop-k
-invariant-loop-k l = (l.k ≤ l.question.n) × (l.next ≡ setting_table (list_of (next-at l.question l.settings l.level l.set l.quanta) l.k))
-
-abbrev pub decreases-loop-k : goal.decreases-loop-k
-decreases-loop-k l = l.question.n - l.k
+invariant-loop-k l = l.next ≡ setting_table (list_of (next-at l.fn.question l.settings l.level l.set l.quanta) l.k)

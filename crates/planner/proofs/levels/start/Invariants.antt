@@ -1,4 +1,3 @@
-use Prim.Native.Nat.{◌-◌, ◌≤◌}
 use mathlib.Core.Path.{◌≡◌}
 use Rattle.sets.specs.Places.{list_of}
 use Rattle.records.specs.Jobs.{job_at}
@@ -7,7 +6,4 @@ use Rattle.assignment.specs.Plan.{setting_left}
 use Rattle.planner.proofs.levels.start.Given as goal
 
 abbrev pub invariant-loop-k : goal.invariant-loop-k
-invariant-loop-k l = (l.k ≤ l.question.n) × (l.settings ≡ setting_table (list_of (λ i. setting_left (job_at l.question.workload.jobs i).id) l.k))
-
-abbrev pub decreases-loop-k : goal.decreases-loop-k
-decreases-loop-k l = l.question.n - l.k
+invariant-loop-k l = l.settings ≡ setting_table (list_of (λ i. setting_left (job_at l.question.workload.jobs i).id) l.k)

@@ -8,13 +8,12 @@ use Rattle.sets.proofs.Places.{list_length}
 use Rattle.records.specs.Limits.{most_jobs}
 use Rattle.records.specs.Records.{table}
 use Rattle.records.proofs.FixedWidth.{list-next, table-full}
-use borrow.Author.Rules.{rules}
 use Rattle.planner.proofs.quanta.lowest_quanta.Goals as goal
 use Rattle.planner.proofs.quanta.lowest_quanta.Goals.{then-contains, else-contains}
 
 pub loop-i-init : goal.loop-i-init
 unfolding list_of
-loop-i-init c = (search rules, refl)
+loop-i-init c = refl
 
 pub loop-i-preserved : goal.loop-i-preserved
 loop-i-preserved c =
@@ -22,9 +21,9 @@ loop-i-preserved c =
     let a = c.args in
     let f : ℕ → ℕ = λ k. cond (has a.set k) a.low 0 in
     let test = c.contains.ensures in
-    let value : c.if-contains.quanta ≡ f l.i = elim c.if-contains.branch [ then-contains w ↦ w.quanta-is ∙ sym (ap (λ (b : Bool). cond b a.low 0) (sym test ∙ w.if-contains.true)) | else-contains w ↦ w.quanta-is ∙ sym (ap (λ (b : Bool). cond b a.low 0) (sym test ∙ w.if-contains.false)) ]
+    let value : c.if-contains.quantum ≡ f l.i = elim c.if-contains.branch [ then-contains w ↦ w.quantum-is ∙ sym (ap (λ (b : Bool). cond b a.low 0) (sym test ∙ w.if-contains.true)) | else-contains w ↦ w.quantum-is ∙ sym (ap (λ (b : Bool). cond b a.low 0) (sym test ∙ w.if-contains.false)) ]
     in
-    (search rules, list-next f most_jobs l.i 0 l.quanta c.if-contains.quanta (omega arith) l.invariant.1 value)
+    list-next f most_jobs l.i 0 l.quantum-items c.if-contains.quantum (omega arith) l.invariant value
 
 pub returns : goal.returns
 returns c =
@@ -32,4 +31,4 @@ returns c =
     let a = c.args in
     let f : ℕ → ℕ = λ k. cond (has a.set k) a.low 0 in
     let e : l.i ≡ most_jobs = omega arith in
-    l.invariant.1 ∙ ap (λ (n : ℕ). table most_jobs 0 (list_of f n)) e ∙ table-full most_jobs 0 (list_of f most_jobs) (list_length f most_jobs)
+    l.invariant ∙ ap (λ (n : ℕ). table most_jobs 0 (list_of f n)) e ∙ table-full most_jobs 0 (list_of f most_jobs) (list_length f most_jobs)

@@ -1,4 +1,3 @@
-use Prim.Native.Nat.{◌-◌, ◌≤◌}
 use mathlib.Core.Path.{◌≡◌}
 use mathlib.Core.Bool.{cond}
 use Rattle.sets.specs.Places.{list_of}
@@ -8,7 +7,4 @@ use Rattle.records.specs.Records.{table}
 use Rattle.planner.proofs.quanta.lowest_quanta.Given as goal
 
 abbrev pub invariant-loop-i : goal.invariant-loop-i
-invariant-loop-i l = (l.i ≤ most_jobs) × (l.quanta ≡ table most_jobs 0 (list_of (λ k. cond (has l.set k) l.low 0) l.i))
-
-abbrev pub decreases-loop-i : goal.decreases-loop-i
-decreases-loop-i l = most_jobs - l.i
+invariant-loop-i l = l.quantum-items ≡ table most_jobs 0 (list_of (λ k. cond (has l.set k) l.low 0) l.i)

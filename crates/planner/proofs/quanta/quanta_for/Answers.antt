@@ -15,5 +15,5 @@ per-job PerJob jobs low high left s = refl
 pub returns : goal.returns
 returns c =
     let a = c.args in
-    let q = a.question in
+    let q = a.question.now in
     c.quanta_per_job.ensures ∙ per-job q.search (listed q) q.range.low q.range.high a.left a.set

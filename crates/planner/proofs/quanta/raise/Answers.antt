@@ -16,51 +16,49 @@ use Rattle.planner.proofs.quanta.raise.Goals.{After-bound, Start}
 -- What is known of the question, the layer and the job.
 module _ (c : Start) where
   abbrev jobs : List Job
-  jobs = listed c.args.question
+  jobs = listed c.args.question.now
 
-  accepted : Accepted c.args.question
+  accepted : Accepted c.args.question.now
   accepted = c.requires.0.accepted
 
   place : c.args.job < length jobs
-  place = omega (arith, c.requires.2, listed-length c.args.question accepted)
+  place = omega (arith, c.requires.2, listed-length c.args.question.now accepted)
 
 -- The bound that a turn finds.
 found : (c : After-bound) → let a = c.args in
-    c.bound.result ≡ bound (listed a.question) c.loop-question.now (has a.layer) (has a.above) a.job
+    c.bound.result ≡ bound (listed a.question.now) c.loop-workload.now (has a.layer) (has a.above) a.job
 found c =
     let a = c.args in
-    c.bound.ensures ∙ asked-bound a.question a.layer a.above c.requires.0 c.loop-question.now a.job c.requires.2
+    c.bound.ensures ∙ asked-bound a.question.now a.layer a.above c.requires.0 c.loop-workload.now a.job c.requires.2
 
-pub loop-question-init : goal.loop-question-init
-loop-question-init c =
+pub loop-workload-init : goal.loop-workload-init
+loop-workload-init c =
     let a = c.args in
-    raised-none (jobs (goal.at.loop-question-init c).Start) (listed-costs a.question (accepted (goal.at.loop-question-init c).Start)) a.question.range.low a.question.range.high (accepted (goal.at.loop-question-init c).Start).low (has a.layer) (has a.above) a.job a.quanta c.requires.1
-
-pub returns-then-bound-gt0 : goal.returns-then-bound-gt0
-returns-then-bound-gt0 c = (c.loop-question.invariant, omega (arith, found (goal.at.returns-then-bound-gt0 c).After-bound, c.if-bound-gt0.true))
+    let s = (goal.at.loop-workload-init c).Start in
+    raised-none (jobs s) (listed-costs a.question.now (accepted s)) a.question.now.range.low a.question.now.range.high (accepted s).low (has a.layer) (has a.above) a.job a.quanta c.requires.1
 
 pub bounds-now-job : goal.bounds-now-job
-bounds-now-job c =
-    omega (arith, c.requires.2, (accepted (goal.at.bounds-now-job c).Start).few)
+bounds-now-job c = omega (arith, c.requires.2, (accepted (goal.at.bounds-now-job c).Start).few)
 
-pub returns-then-range-quantum : goal.returns-then-range-quantum
-returns-then-range-quantum c =
+pub returns-then-range-now : goal.returns-then-range-now
+returns-then-range-now c =
     let a = c.args in
-    past-highest (jobs (goal.at.returns-then-range-quantum c).Start) (listed-costs a.question (accepted (goal.at.returns-then-range-quantum c).Start)) a.question.range.low a.question.range.high (accepted (goal.at.returns-then-range-quantum c).Start).low (has a.layer) (has a.above) a.job (place (goal.at.returns-then-range-quantum c).Start) c.requires.3
-    c.loop-question.now c.loop-question.invariant.standing (λ p. omega (arith, found (goal.at.returns-then-range-quantum c).After-bound, c.if-bound-gt0.false)) (omega (arith, c.if-range-quantum.true))
+    let s = (goal.at.returns-then-range-now c).Start in
+    past-highest (jobs s) (listed-costs a.question.now (accepted s)) a.question.now.range.low a.question.now.range.high (accepted s).low (has a.layer) (has a.above) a.job (place s) c.requires.3
+    c.loop-workload.now c.loop-workload.invariant.standing (λ p. omega (arith, found (goal.at.returns-then-range-now c).After-bound, c.loop-workload-test.true)) c.if-range-now.true
 
-pub bounds-now-job-in-loop-question : goal.bounds-now-job-in-loop-question
-bounds-now-job-in-loop-question c =
-    omega (arith, c.requires.2, (accepted (goal.at.bounds-now-job-in-loop-question c).Start).few)
-
-pub loop-question-smaller : goal.loop-question-smaller
-loop-question-smaller c =
+pub loop-workload-smaller : goal.loop-workload-smaller
+loop-workload-smaller c =
     let a = c.args in
-    let e = get_or-set_same c.loop-question.now a.job (get_or c.loop-question.now a.job 0 + 1) 0 (omega (arith, place (goal.at.loop-question-smaller c).Start, c.loop-question.invariant.standing.long)) in
-    omega (arith, e, c.if-range-quantum.false)
+    let e = get_or-set_same c.loop-workload.now a.job (get_or c.loop-workload.now a.job 0 + 1) 0 (omega (arith, place (goal.at.loop-workload-smaller c).Start, c.loop-workload.invariant.standing.long)) in
+    omega (arith, e, c.if-range-now.false)
 
-pub loop-question-preserved : goal.loop-question-preserved
-loop-question-preserved c =
+pub loop-workload-preserved : goal.loop-workload-preserved
+loop-workload-preserved c =
     let a = c.args in
-    raised-next (jobs (goal.at.loop-question-preserved c).Start) (listed-costs a.question (accepted (goal.at.loop-question-preserved c).Start)) a.question.range.low a.question.range.high (accepted (goal.at.loop-question-preserved c).Start).low (has a.layer) (has a.above) a.job (place (goal.at.loop-question-preserved c).Start) c.requires.3
-    a.quanta c.loop-question.now c.loop-question.invariant (λ p. omega (arith, found (goal.at.loop-question-preserved c).After-bound, c.if-bound-gt0.false)) (omega (arith, c.if-range-quantum.false))
+    let s = (goal.at.loop-workload-preserved c).Start in
+    raised-next (jobs s) (listed-costs a.question.now (accepted s)) a.question.now.range.low a.question.now.range.high (accepted s).low (has a.layer) (has a.above) a.job (place s) c.requires.3
+    a.quanta c.loop-workload.now c.loop-workload.invariant (λ p. omega (arith, found (goal.at.loop-workload-preserved c).After-bound, c.loop-workload-test.true)) c.if-range-now.false
+
+pub returns : goal.returns
+returns c = (c.loop-workload.invariant, omega (arith, found (goal.at.returns c).After-bound, c.loop-workload-test.false))

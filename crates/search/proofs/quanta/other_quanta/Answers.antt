@@ -14,13 +14,7 @@ use Rattle.search.proofs.quanta.other_quanta.Goals as goal
 use Rattle.search.proofs.quanta.other_quanta.Goals.{then-contains, else-contains}
 
 pub loop-i-init : goal.loop-i-init
-loop-i-init c = (search rules, sym (over_none _ _), omega arith)
-
-pub overflow_cast-sum : goal.overflow_cast-sum
-overflow_cast-sum c = let h : Fits w8 (get_or c.args.quanta c.loop-i.i 0) = search rules in omega arith
-
-pub overflow_add-sum : goal.overflow_add-sum
-overflow_add-sum c = let h : Fits w8 (get_or c.args.quanta c.loop-i.i 0) = search rules in omega arith
+loop-i-init c = (sym (over_none _ _), omega arith)
 
 pub loop-i-preserved : goal.loop-i-preserved
 loop-i-preserved c =
@@ -28,11 +22,11 @@ loop-i-preserved c =
     let l = c.loop-i in
     let f : ℕ → ℕ = λ k. get_or a.quanta k 0 in
     let h : Fits w8 (get_or a.quanta l.i 0) = search rules in
-    elim c.if-contains.branch [ then-contains w ↦ (omega arith, w.sum-is ∙ omega (arith, over-in l.i (has c.remove-others.result) f c.contains.ensures w.if-contains.true, l.invariant.1), omega arith) | else-contains w ↦ (omega arith, w.sum-is ∙ omega (arith, over-out l.i (has c.remove-others.result) f c.contains.ensures w.if-contains.false, l.invariant.1), omega arith) ]
+    elim c.if-contains.branch [ then-contains w ↦ (w.sum-is ∙ omega (arith, over-in l.i (has c.remove-others.result) f c.contains.ensures w.if-contains.true, l.invariant.0), omega arith) | else-contains w ↦ (w.sum-is ∙ omega (arith, over-out l.i (has c.remove-others.result) f c.contains.ensures w.if-contains.false, l.invariant.0), omega arith) ]
 
 pub returns : goal.returns
 returns c =
     let a = c.args in
     let l = c.loop-i in
     let e : l.i ≡ most_jobs = omega arith in
-    l.invariant.1 ∙ ap (λ (n : ℕ). sum_over n (has c.remove-others.result) (λ k. get_or a.quanta k 0)) e ∙ others-removed a.job a.layer c.remove-others.result a.quanta c.remove-others.ensures
+    l.invariant.0 ∙ ap (λ (n : ℕ). sum_over n (has c.remove-others.result) (λ k. get_or a.quanta k 0)) e ∙ others-removed a.job a.layer c.remove-others.result a.quanta c.remove-others.ensures

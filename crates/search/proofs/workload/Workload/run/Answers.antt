@@ -11,5 +11,5 @@ returns c =
     let a = c.args in
     let size : length a.self.jobs ≡ most_jobs = search rules in
     c.bound.ensures
-    ∙ first-only (record { jobs = a.self.jobs; utilisations = a.self.utilisations; unassignable = c.single-unassignable.result; sought = a.sought }) a.quanta (has a.layer) (has a.above) a.job
-    c.single-unassignable.ensures size
+    ∙ first-only (record { jobs = a.self.jobs; utilisations = a.self.utilisations; unassignable = c.single.result; sought = a.sought }) a.quanta (has a.layer) (has a.above) a.job
+    c.single.ensures size
