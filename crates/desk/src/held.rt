@@ -3,7 +3,7 @@ ghost use Rattle.std.specs.Prelude.{◌≡◌, ◌≤◌};
 ghost use Rattle.desk.specs.Edits.{roomy, held_answer, edit_first, edit_held};
 
 use records::job::Job;
-use records::refusal::Verdict;
+use records::refusal::Refusal;
 
 // The entries of a held table: more than a call accepts.
 pub const ROOM: usize = Job::MOST + 2;
@@ -11,7 +11,7 @@ pub const ROOM: usize = Job::MOST + 2;
 // The answer, and the table after the edit.
 #[derive(Clone, Copy)]
 pub struct Edited {
-    pub answer: Verdict,
+    pub answer: Result<(), Refusal>,
     pub jobs: [Job; ROOM],
 }
 
