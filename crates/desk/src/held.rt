@@ -16,6 +16,7 @@ pub struct Edited {
 }
 
 // Edits one of the first n jobs.
+#[tactic(auto, unfolding(crate::specs::Edits::edit_first))]
 fn edit_first(
     mut jobs: [Job; ROOM],
     n: usize,

@@ -4,7 +4,7 @@
 
 use desk::held::ROOM;
 use records::job::Job;
-use records::refusal::Verdict;
+use records::refusal::Refusal;
 use std::io;
 
 fn print_job(rt: &impl Print, job: Job) -> io::Result<()> {
@@ -14,10 +14,10 @@ fn print_job(rt: &impl Print, job: Job) -> io::Result<()> {
     )
 }
 
-fn print_answer(rt: &impl Print, answer: Verdict) -> io::Result<()> {
+fn print_answer(rt: &impl Print, answer: Result<(), Refusal>) -> io::Result<()> {
     match answer {
-        Verdict::Accepted => println!(rt; "done"),
-        Verdict::Refused(refusal) => println!(rt; "refused {}", refusal.number()),
+        Ok(()) => println!(rt; "done"),
+        Err(refusal) => println!(rt; "refused {}", refusal.number()),
     }
 }
 
