@@ -2,7 +2,7 @@
 use crate::say::Failure;
 use crate::{arguments, say};
 use command::Argument;
-use command::span::{Quanta, Span};
+use command::span::Quanta;
 use kernel::priority::KernelPriority;
 use std::env::FillError;
 use std::rt::Env;
@@ -126,16 +126,16 @@ impl Asked {
     }
 
     fn take_range(&mut self, option: Ranged, word: &[u8]) -> Result<(), Failure> {
-        let Span::Between(low, high) = command::span::read_span(word) else {
+        let Some(span) = command::span::read_span(word) else {
             return Err(option.wrong());
         };
         self.awaiting = None;
         match option {
-            Ranged::Quanta => self.quanta = Some(Quanta { low, high }),
+            Ranged::Quanta => self.quanta = Some(span),
             Ranged::Priorities => {
                 self.priorities = Some(Priorities {
-                    lowest: KernelPriority(low),
-                    highest: KernelPriority(high),
+                    lowest: KernelPriority(span.low),
+                    highest: KernelPriority(span.high),
                 });
             }
         }

@@ -7,7 +7,6 @@ use crate::{asked, say};
 use lists::fields::Form;
 use records::refusal::Refusal;
 use std::rt::{Env, Files};
-use text::answer::Answered;
 
 // What hand-ins are marked for. One that is alone is marked in full.
 #[derive(Clone, Copy)]
@@ -55,12 +54,12 @@ impl Marking {
             hand_in.block.as_slice(),
             &mut output,
         );
-        let text = &output[..told.length];
-        let last = &text[told.last..];
-        match told.answer {
-            Answered::Yes => self.print(rt, Answer::Yes, hand_in, text, last),
-            Answered::No => self.print(rt, Answer::No, hand_in, text, last),
-            Answered::Refused(refusal) => Err(self.refuse(rt, hand_in, refusal)),
+        match told {
+            Ok(told) => {
+                let text = &output[..told.length];
+                self.print(rt, told.yes.into(), hand_in, text, &text[told.last..])
+            }
+            Err(refusal) => Err(self.refuse(rt, hand_in, refusal)),
         }
     }
 

@@ -7,7 +7,8 @@ use command::span::Quanta;
 use lists::fields::Form;
 use records::call::Call;
 use records::job::Job;
-use records::refusal::{Counted, Refusal};
+use records::record;
+use records::refusal::Refusal;
 use std::rt::{Env, Files};
 
 // A list and a range that are not judged; `optioned` says that the range is an option's.
@@ -22,13 +23,7 @@ impl List {
     // The first name's list, and the range of the call.
     pub fn load(rt: &(impl Env + Files + Input), asked: &Asked) -> Result<List, Failure> {
         let source = Source::load(rt, asked.first, Form::Job, asked.blocks)?;
-        let none = Quanta { low: 0, high: 0 };
-        let quanta = command::span::choose(
-            asked.quanta.is_some(),
-            asked.quanta.unwrap_or(none),
-            source.quanta.is_some(),
-            source.quanta.unwrap_or(none),
-        );
+        let quanta = command::span::choose(asked.quanta, source.quanta);
         Ok(List {
             source,
             quanta,
@@ -46,7 +41,7 @@ impl List {
         let reason = reasons::list::list_reason(
             refusal.number(),
             self.source.size,
-            records::block::read_unjudged(block),
+            record::read(block),
             block.len() / Job::SIZE,
             self.quanta.low,
             self.quanta.high,
@@ -59,18 +54,16 @@ impl List {
 #[derive(Clone, Copy)]
 pub struct Accepted {
     pub list: List,
-    call: Call,
-    pub count: usize,
+    pub call: Call,
 }
 
 impl Accepted {
     // The same of a list and a range that may be refused.
     pub fn load(rt: &(impl Env + Files + Input), asked: &Asked) -> Result<Accepted, Failure> {
         let list = List::load(rt, asked)?;
-        let call = records::call::read_call(list.block(), list.quanta.low, list.quanta.high);
-        match call.answer {
-            Counted::Count(count) => Ok(Accepted { list, call, count }),
-            Counted::Refused(refusal) => Err(list.refuse(rt, refusal)),
+        match records::call::read_call(list.block(), list.quanta.low, list.quanta.high) {
+            Ok(call) => Ok(Accepted { list, call }),
+            Err(refusal) => Err(list.refuse(rt, refusal)),
         }
     }
 
@@ -79,9 +72,9 @@ impl Accepted {
         let reason = reasons::hand_in::hand_in_reason(
             refusal.number(),
             hand_in.size,
-            self.call.table,
-            configuration::block::read_unjudged(hand_in.block.as_slice()),
-            self.count,
+            self.call.jobs.table,
+            record::read(hand_in.block.as_slice()),
+            self.call.jobs.count,
             self.call.range,
         );
         say_refusal(rt, hand_in, false, refusal, reason)
@@ -98,9 +91,9 @@ impl Accepted {
         let reason = reasons::kernels::kernel_reason(
             refusal.number(),
             loaded.size,
-            self.call.table,
-            kernel::block::read_unjudged(loaded.block.as_slice()),
-            self.count,
+            self.call.jobs.table,
+            record::read(loaded.block.as_slice()),
+            self.call.jobs.count,
             self.call.range,
             priorities.highest,
         );
@@ -116,7 +109,7 @@ impl Accepted {
     ) -> Failure {
         let reason = reasons::kernels::priorities_reason(
             refusal.number(),
-            self.count,
+            self.call.jobs.count,
             priorities.lowest,
             priorities.highest,
         );

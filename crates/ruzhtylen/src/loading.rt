@@ -7,7 +7,7 @@ use crate::{say, texts};
 use kernel::record::KernelRecord;
 use lists::fields::Form;
 use records::job::Job;
-use records::refusal::{Counted, Verdict};
+use records::record;
 use std::rt::{Env, Files};
 
 // The bytes of the records of as many jobs as there can be.
@@ -18,7 +18,7 @@ fn print_kernels(rt: &impl Print, as_bytes: bool, block: &[u8]) -> Outcome {
     if as_bytes {
         return say::print_answer(rt, Answer::Yes, block);
     }
-    let kernels = kernel::block::read_unjudged(block);
+    let kernels = record::read(block);
     let mut output = [0u8; tables::KERNEL_SIZE];
     let n = block.len() / KernelRecord::SIZE;
     let length = tables::put_kernel_table(kernels, n, &mut output);
@@ -27,7 +27,7 @@ fn print_kernels(rt: &impl Print, as_bytes: bool, block: &[u8]) -> Outcome {
 
 // The records of an output that a conversion has written, one for each job of the list.
 fn written<'a>(list: &Accepted, output: &'a [u8; SIZE]) -> &'a [u8] {
-    let size = KernelRecord::SIZE * Job::at_most(list.count);
+    let size = KernelRecord::SIZE * Job::at_most(list.call.jobs.count);
     &output[..output.len().min(size)]
 }
 
@@ -49,7 +49,7 @@ fn there(
         hand_in.block.as_slice(),
         &mut output,
     );
-    if let Verdict::Refused(refusal) = answer {
+    if let Err(refusal) = answer {
         return Err(accepted.refuse_hand_in(rt, &hand_in, refusal));
     }
     print_kernels(rt, asked.bytes, written(accepted, &output))
@@ -74,7 +74,7 @@ fn back(
         loaded.block.as_slice(),
         &mut output,
     );
-    if let Verdict::Refused(refusal) = answer {
+    if let Err(refusal) = answer {
         return Err(accepted.refuse_kernels(rt, &loaded, priorities, refusal));
     }
     texts::print_settings(rt, written(accepted, &output))
@@ -94,7 +94,7 @@ pub fn loader(
         priorities.lowest,
         priorities.highest,
     );
-    if let Counted::Refused(refusal) = call.answer {
+    if let Err(refusal) = call {
         return Err(accepted.refuse_priorities(rt, priorities, refusal));
     }
     if asked.back {

@@ -12,6 +12,12 @@ pub enum Answer {
     No,
 }
 
+impl From<bool> for Answer {
+    fn from(yes: bool) -> Answer {
+        if yes { Answer::Yes } else { Answer::No }
+    }
+}
+
 // That nothing is answered. Why has been said.
 #[derive(Clone, Copy, PartialEq, Eq, PartialOrd, Ord)]
 pub enum Failure {

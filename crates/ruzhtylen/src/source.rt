@@ -5,9 +5,8 @@ ghost use Rattle.std.specs.Prelude.{◌≤◌};
 use crate::say::Failure;
 use crate::{files, say};
 use command::span::Quanta;
-use lists::fault::Fault;
 use lists::fields::Form;
-use lists::rows::RowsAnswer;
+use lists::rows::{FaultyLine, SaidRange};
 use messages::refusal::Naming;
 use records::job::Job;
 use std::rt::{Env, Files};
@@ -51,9 +50,18 @@ fn line_number(line: usize) -> u32 {
     (line % 4294967296) as u32
 }
 
-fn fault(rt: &impl Env, index: usize, line: usize, fault: Fault) -> Failure {
+// A range that a text says, which is read only where its numbers fit a byte.
+fn quanta_of(range: SaidRange) -> Quanta {
+    Quanta {
+        low: (range.low % 256) as u8,
+        high: (range.high % 256) as u8,
+    }
+}
+
+fn fault(rt: &impl Env, index: usize, faulty: FaultyLine) -> Failure {
     let mut output = [0u8; messages::fault::SIZE];
-    let length = messages::fault::put_fault(line_number(line), fault, &mut output);
+    let line = line_number(faulty.line);
+    let length = messages::fault::put_fault(line, faulty.fault, &mut output);
     say::about(rt, index, &output[..length]);
     Failure::NotAnswered
 }
@@ -71,22 +79,17 @@ impl Source {
     }
 
     fn of_text(rt: &impl Env, index: usize, form: Form, content: &[u8]) -> Result<Source, Failure> {
-        let read = lists::blocks::read_block(form, content);
-        if let RowsAnswer::Faulty(line, why) = read.answer {
-            return Err(fault(rt, index, line, why));
+        match lists::blocks::read_block(form, content) {
+            Ok(read) => Ok(Source {
+                index,
+                block: Block::of(&read.bytes[..read.size]),
+                size: read.size as u32,
+                naming: Naming::Line,
+                lines: read.at.map(line_number),
+                quanta: read.range.map(quanta_of),
+            }),
+            Err(faulty) => Err(fault(rt, index, faulty)),
         }
-        let quanta = Quanta {
-            low: (read.low % 256) as u8,
-            high: (read.high % 256) as u8,
-        };
-        Ok(Source {
-            index,
-            block: Block::of(&read.bytes[..read.size]),
-            size: read.size as u32,
-            naming: Naming::Line,
-            lines: read.at.map(line_number),
-            quanta: if read.ranged { Some(quanta) } else { None },
-        })
     }
 
     // The list, the configuration or the kernel records in the file that is argument `index`.

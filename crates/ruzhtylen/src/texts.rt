@@ -10,6 +10,7 @@ use command::span::Quanta;
 use configuration::setting::Setting;
 use lists::fields::Form;
 use records::job::Job;
+use records::record;
 use records::refusal::Refusal;
 use std::rt::{Env, Files};
 
@@ -30,7 +31,7 @@ fn list_text(rt: &(impl Env + Print), source: Source) -> Outcome {
         return Err(list.refuse(rt, Refusal::JobCount));
     }
     let block = source.block.as_slice();
-    let jobs = records::block::read_unjudged(block);
+    let jobs = record::read(block);
     let mut output = [0u8; tables::LIST_SIZE];
     let length = tables::put_list(jobs, block.len() / Job::SIZE, &mut output);
     say::print_answer(rt, Answer::Yes, &output[..length])
@@ -38,7 +39,7 @@ fn list_text(rt: &(impl Env + Print), source: Source) -> Outcome {
 
 // Prints the settings of a block, a line each.
 pub fn print_settings(rt: &impl Print, block: &[u8]) -> Outcome {
-    let settings = configuration::block::read_unjudged(block);
+    let settings = record::read(block);
     let mut output = [0u8; tables::CONFIGURATION_SIZE];
     let n = block.len() / Setting::SIZE;
     let length = tables::put_configuration(settings, n, &mut output);

@@ -5,19 +5,17 @@ use crate::say;
 use crate::say::{Answer, Failure, Outcome};
 use crate::source::Source;
 use lists::fields::Form;
+use records::refusal::Refusal;
 use std::rt::{Env, Files};
-use text::answer::Answered;
 
 // The key of a list.
 pub fn key(rt: &(impl Env + Files + Input + Print), asked: &Asked) -> Outcome {
     let list = List::load(rt, asked)?;
     let mut output = [0u8; text::key::SIZE];
     let keyed = text::key::answer_key(list.block(), list.quanta.low, list.quanta.high, &mut output);
-    let text = &output[..keyed.length];
     match keyed.answer {
-        Answered::Yes => say::print_answer(rt, Answer::Yes, text),
-        Answered::No => say::print_answer(rt, Answer::No, text),
-        Answered::Refused(refusal) => Err(list.refuse(rt, refusal)),
+        Ok(yes) => say::print_answer(rt, yes.into(), &output[..keyed.length]),
+        Err(refusal) => Err(list.refuse(rt, refusal)),
     }
 }
 
@@ -35,15 +33,9 @@ impl Case {
         Ok(Case { list, hand_in })
     }
 
-    // Prints what is told of the configuration, or says why it is refused.
-    fn tell(&self, rt: &(impl Env + Print), answer: Answered, text: &[u8]) -> Outcome {
-        match answer {
-            Answered::Yes => say::print_answer(rt, Answer::Yes, text),
-            Answered::No => say::print_answer(rt, Answer::No, text),
-            Answered::Refused(refusal) => {
-                Err(self.list.refuse_hand_in(rt, &self.hand_in, refusal))
-            }
-        }
+    // Says why the configuration is refused.
+    fn refuse(&self, rt: &impl Env, refusal: Refusal) -> Failure {
+        self.list.refuse_hand_in(rt, &self.hand_in, refusal)
     }
 }
 
@@ -59,7 +51,10 @@ pub fn bounds(rt: &(impl Env + Files + Input + Print), asked: &Asked) -> Outcome
         case.hand_in.block.as_slice(),
         &mut output,
     );
-    case.tell(rt, told.answer, &output[..told.length])
+    match told {
+        Ok(told) => say::print_answer(rt, told.yes.into(), &output[..told.length]),
+        Err(refusal) => Err(case.refuse(rt, refusal)),
+    }
 }
 
 // Where the ticks of these bounds go.
@@ -74,7 +69,10 @@ pub fn explain(rt: &(impl Env + Files + Input + Print), asked: &Asked) -> Outcom
         case.hand_in.block.as_slice(),
         &mut output,
     );
-    case.tell(rt, told.answer, &output[..told.length])
+    match told {
+        Ok(told) => say::print_answer(rt, told.yes.into(), &output[..told.length]),
+        Err(refusal) => Err(case.refuse(rt, refusal)),
+    }
 }
 
 // The block of a text.

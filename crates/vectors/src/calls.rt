@@ -2,62 +2,61 @@
 use crate::{reply, tables};
 use configuration::setting::Setting;
 use kernel::priority::KernelPriority;
-use marker::MarkAnswer;
-use planner::PlanAnswer;
+use planner::Planned;
 use records::job::Job;
-use records::refusal::{Counted, Refusal, Verdict};
+use records::record;
+use records::refusal::Refusal;
 
 // The bytes of a table of settings.
 const SETTINGS: usize = Setting::SIZE * Job::MOST;
 
 // A count as a frame has it.
-fn counted(answer: Counted) -> Result<[u16; 1], Refusal> {
-    match answer {
-        Counted::Count(n) => Ok([(n % 65536) as u16]),
-        Counted::Refused(refusal) => Err(refusal),
-    }
+fn counted(answer: Result<usize, Refusal>) -> Result<[u16; 1], Refusal> {
+    answer.map(|count| [(count % 65536) as u16])
 }
 
-fn judged(answer: Verdict) -> Result<[u16; 0], Refusal> {
-    match answer {
-        Verdict::Accepted => Ok([]),
-        Verdict::Refused(refusal) => Err(refusal),
-    }
+fn judged(answer: Result<(), Refusal>) -> Result<[u16; 0], Refusal> {
+    answer.map(|()| [])
 }
 
-fn marked(answer: MarkAnswer) -> Result<[u16; 1], Refusal> {
-    match answer {
-        MarkAnswer::Passes => Ok([1]),
-        MarkAnswer::Fails => Ok([0]),
-        MarkAnswer::Refused(refusal) => Err(refusal),
-    }
+fn marked(answer: Result<bool, Refusal>) -> Result<[u16; 1], Refusal> {
+    answer.map(|passes| [u16::from(passes)])
 }
 
-fn planned(answer: PlanAnswer) -> Result<[u16; 2], Refusal> {
-    match answer {
-        PlanAnswer::Planned(placed, considered) => Ok([u16::from(placed), considered]),
-        PlanAnswer::Refused(refusal) => Err(refusal),
-    }
+fn planned(answer: Result<Planned, Refusal>) -> Result<[u16; 2], Refusal> {
+    answer.map(|plan| [u16::from(plan.placed), plan.considered])
 }
 
 pub fn read_jobs(rt: &impl Print, jobs: &[u8]) {
     let read = records::block::read_jobs(jobs);
+    // The records of a blank table are zeros.
     let mut bytes = [0u8; tables::TABLE];
-    records::block::write_unjudged(read.table, Job::MOST, &mut bytes);
-    reply::write(rt, counted(read.answer), &[&bytes]);
+    if let Ok(jobs) = read {
+        let _ = record::write(&jobs.table, &mut bytes);
+    }
+    reply::write(rt, counted(read.map(|jobs| jobs.count)), &[&bytes]);
 }
 
 pub fn write_jobs(rt: &impl Print, entries: &[u8], count: u16, output: &mut [u8]) {
-    let table = records::block::read_unjudged(entries);
+    let table = record::read(entries);
     let wrote = records::block::write_jobs(table, usize::from(count), output);
     reply::write(rt, counted(wrote), &[output]);
 }
 
-pub fn read_configuration(rt: &impl Print, jobs: &[u8], low: u8, high: u8, configuration: &[u8]) {
+pub fn read_configuration(
+    rt: &impl Print,
+    jobs: &[u8],
+    low: u8,
+    high: u8,
+    configuration: &[u8],
+) {
     let read = configuration::block::read_configuration(jobs, low, high, configuration);
+    // The records of a blank table are zeros.
     let mut bytes = [0u8; SETTINGS];
-    configuration::block::write_settings(read.settings, Job::MOST, &mut bytes);
-    reply::write(rt, counted(read.answer), &[&bytes]);
+    if let Ok(settings) = read {
+        let _ = record::write(&settings.table, &mut bytes);
+    }
+    reply::write(rt, counted(read.map(|settings| settings.count)), &[&bytes]);
 }
 
 pub fn write_configuration(
@@ -69,7 +68,7 @@ pub fn write_configuration(
     count: u16,
     output: &mut [u8],
 ) {
-    let settings = configuration::block::read_unjudged(entries);
+    let settings = record::read(entries);
     let wrote = configuration::block::write_configuration(
         jobs,
         low,
