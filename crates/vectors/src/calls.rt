@@ -43,13 +43,7 @@ pub fn write_jobs(rt: &impl Print, entries: &[u8], count: u16, output: &mut [u8]
     reply::write(rt, counted(wrote), &[output]);
 }
 
-pub fn read_configuration(
-    rt: &impl Print,
-    jobs: &[u8],
-    low: u8,
-    high: u8,
-    configuration: &[u8],
-) {
+pub fn read_configuration(rt: &impl Print, jobs: &[u8], low: u8, high: u8, configuration: &[u8]) {
     let read = configuration::block::read_configuration(jobs, low, high, configuration);
     // The records of a blank table are zeros.
     let mut bytes = [0u8; SETTINGS];
