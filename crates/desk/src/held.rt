@@ -1,4 +1,5 @@
-// An edit in a table that is held by value, for callers that have no slice of jobs to lend.
+// An edit in a table that is held by value, for callers that have no slice of jobs to lend. docs/ARCHITECTURE.md names `edit_held`, so it stays
+// beside `edit`.
 ghost use Rattle.std.specs.Prelude.{◌≡◌, ◌≤◌};
 ghost use Rattle.desk.specs.Edits.{roomy, held_answer, edit_first, edit_held};
 
