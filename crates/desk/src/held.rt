@@ -1,9 +1,10 @@
-// An edit in a table that is held by value, for callers that have no slice of jobs to lend.
+// An edit in a table that is held by value, for callers that have no slice of jobs to lend. docs/ARCHITECTURE.md names `edit_held`, so it stays
+// beside `edit`.
 ghost use Rattle.std.specs.Prelude.{◌≡◌, ◌≤◌};
 ghost use Rattle.desk.specs.Edits.{roomy, held_answer, edit_first, edit_held};
 
 use records::job::Job;
-use records::refusal::Verdict;
+use records::refusal::Refusal;
 
 // The entries of a held table: more than a call accepts.
 pub const ROOM: usize = Job::MOST + 2;
@@ -11,11 +12,12 @@ pub const ROOM: usize = Job::MOST + 2;
 // The answer, and the table after the edit.
 #[derive(Clone, Copy)]
 pub struct Edited {
-    pub answer: Verdict,
+    pub answer: Result<(), Refusal>,
     pub jobs: [Job; ROOM],
 }
 
 // Edits one of the first n jobs.
+#[tactic(auto, unfolding(crate::specs::Edits::edit_first))]
 fn edit_first(
     mut jobs: [Job; ROOM],
     n: usize,

@@ -6,39 +6,43 @@ ghost use Rattle.records.specs.Refusals.{verdict};
 ghost use Rattle.desk.specs.Edits.{judged, edit_outcome};
 
 use records::job::Job;
-use records::refusal::{Refusal, Verdict};
+use records::refusal::Refusal;
 
 pub mod held;
 
 // The answer to an edit, by the number of jobs, the place and the new numbers alone.
-fn judge(count: usize, place: usize, cost: u16, period: u16, deadline: u16) -> Verdict
+fn judge(count: usize, place: usize, cost: u16, period: u16, deadline: u16) -> Result<(), Refusal>
     ensures { verdict result ≡ judged count place cost period deadline }
 {
     if count < 1 {
-        return Verdict::Refused(Refusal::JobCount);
+        return Err(Refusal::JobCount);
     }
     if Job::MOST < count {
-        return Verdict::Refused(Refusal::JobCount);
+        return Err(Refusal::JobCount);
     }
     if count <= place {
-        return Verdict::Refused(Refusal::Place);
+        return Err(Refusal::Place);
     }
     if !Job::times_ok(cost, period, deadline) {
-        return Verdict::Refused(Refusal::JobTimes);
+        return Err(Refusal::JobTimes);
     }
-    Verdict::Accepted
+    Ok(())
 }
 
 // Writes cost, period and deadline of the job at a place.
-pub fn edit(jobs: &mut [Job], place: usize, cost: u16, period: u16, deadline: u16) -> Verdict
+pub fn edit(
+    jobs: &mut [Job],
+    place: usize,
+    cost: u16,
+    period: u16,
+    deadline: u16,
+) -> Result<(), Refusal>
     ensures { (verdict result, jobs.new) ≡ edit_outcome jobs.old place cost period deadline }
 {
-    let answer = judge(jobs.len(), place, cost, period, deadline);
-    if let Verdict::Accepted = answer {
-        let job = &mut jobs[place];
-        job.cost = cost;
-        job.period = period;
-        job.deadline = deadline;
-    }
-    answer
+    judge(jobs.len(), place, cost, period, deadline)?;
+    let job = &mut jobs[place];
+    job.cost = cost;
+    job.period = period;
+    job.deadline = deadline;
+    Ok(())
 }

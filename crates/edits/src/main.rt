@@ -4,44 +4,38 @@
 
 use desk::held::ROOM;
 use records::job::Job;
-use records::refusal::Verdict;
+use records::refusal::Refusal;
+use std::io;
 
-const STDOUT_FILENO: i32 = 1;
-
-fn print_number(number: u16, end: &[u8]) {
-    io::print_decimal(STDOUT_FILENO, number as u64);
-    io::write_all(STDOUT_FILENO, end);
+fn print_job(rt: &impl Print, job: Job) -> io::Result<()> {
+    println!(rt;
+        "{} {} {} {} {}",
+        job.id, job.cost, job.period, job.deadline, job.delay
+    )
 }
 
-fn print_job(job: Job) {
-    print_number(job.id as u16, b" ");
-    print_number(job.cost, b" ");
-    print_number(job.period, b" ");
-    print_number(job.deadline, b" ");
-    print_number(job.delay as u16, b"\n");
-}
-
-fn print_answer(answer: Verdict) {
+fn print_answer(rt: &impl Print, answer: Result<(), Refusal>) -> io::Result<()> {
     match answer {
-        Verdict::Accepted => {
-            io::write_all(STDOUT_FILENO, b"done\n");
-        }
-        Verdict::Refused(refusal) => {
-            io::write_all(STDOUT_FILENO, b"refused ");
-            print_number(refusal.number() as u16, b"\n");
-        }
+        Ok(()) => println!(rt; "done"),
+        Err(refusal) => println!(rt; "refused {}", refusal.number()),
     }
 }
 
 // Prints what an edit of the first n jobs answers, and the first three jobs after it.
-fn print_edit(jobs: [Job; ROOM], n: usize, place: usize, cost: u16, period: u16, deadline: u16) {
-    let edited = desk::held::edit_held(jobs, n, place, cost, period, deadline);
-    let answer = edited.answer;
-    print_answer(answer);
-    let after = edited.jobs;
-    print_job(after[0]);
-    print_job(after[1]);
-    print_job(after[2]);
+fn print_edit(
+    rt: &impl Print,
+    n: usize,
+    place: usize,
+    cost: u16,
+    period: u16,
+    deadline: u16,
+) -> io::Result<()> {
+    let edited = desk::held::edit_held(table(), n, place, cost, period, deadline);
+    print_answer(rt, edited.answer)?;
+    for job in &edited.jobs[..3] {
+        print_job(rt, *job)?;
+    }
+    Ok(())
 }
 
 // Two jobs, and an entry with id 0 and cost 0 between them.
@@ -71,16 +65,21 @@ fn table() -> [Job; ROOM] {
     jobs
 }
 
-fn main() {
-    print_edit(table(), 3, 2, 3, 12, 10);
-    print_edit(table(), 0, 0, 3, 12, 10);
-    print_edit(table(), 9, 0, 3, 12, 10);
-    print_edit(table(), 3, 3, 3, 12, 10);
-    print_edit(table(), 3, 0, 0, 12, 10);
-    print_edit(table(), 3, 0, 11, 12, 10);
-    print_edit(table(), 3, 0, 3, 9, 10);
-    print_edit(table(), 3, 0, 10, 9, 10);
-    print_edit(table(), 3, 0, 3, 60001, 10);
-    print_edit(table(), 3, 0, 3, 9, 60001);
-    print_edit(table(), 8, 0, 60000, 60000, 60000);
+fn print_edits(rt: &impl Print) -> io::Result<()> {
+    print_edit(rt, 3, 2, 3, 12, 10)?;
+    print_edit(rt, 0, 0, 3, 12, 10)?;
+    print_edit(rt, 9, 0, 3, 12, 10)?;
+    print_edit(rt, 3, 3, 3, 12, 10)?;
+    print_edit(rt, 3, 0, 0, 12, 10)?;
+    print_edit(rt, 3, 0, 11, 12, 10)?;
+    print_edit(rt, 3, 0, 3, 9, 10)?;
+    print_edit(rt, 3, 0, 10, 9, 10)?;
+    print_edit(rt, 3, 0, 3, 60001, 10)?;
+    print_edit(rt, 3, 0, 3, 9, 60001)?;
+    print_edit(rt, 8, 0, 60000, 60000, 60000)
+}
+
+fn main(rt: HostRuntime) {
+    // The status is 0 also where standard output cannot be written.
+    let _ = print_edits(&rt);
 }

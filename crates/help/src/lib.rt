@@ -29,9 +29,7 @@ A FILE that is - is standard input. Status 0: yes; 1: no; 2: no answer, and why 
 "
 }
 
-fn key(rt: &impl Print) -> Result<()> {
-    rt.write_all(
-        b"ruzhtylen key [--quanta LOW-HIGH] [--block] LIST
+const KEY: &[u8] = b"ruzhtylen key [--quanta LOW-HIGH] [--block] LIST
 
 Prints a line per job, id level policy quantum bound, and how many are placed.
 Level 1 runs first; policy 1 is sched_fifo, 2 is sched_rr; a job left over has zeros.
@@ -40,44 +38,28 @@ size by the larger sum of periods, then by the smaller number of the set, in whi
 jobs count 1, 2, 4 and so on. So longer periods go lower where that passes.
 Where all are placed the configuration passes, and the status is 0. Where jobs are left,
 no configuration of the list in that range passes, which is proved, and the status is 1.
-",
-    )
-}
+";
 
 // What a list is.
-fn list(rt: &impl Print) -> Result<()> {
-    rt.write_all(
-        b"
+const LIST: &[u8] = b"
 A list has a line per job, id cost period deadline [delay], and may say its range in a
 line quanta LOW HIGH. From # on a line is a comment.
-",
-    )
-}
+";
 
-fn mark(rt: &impl Print) -> Result<()> {
-    rt.write_all(
-        b"ruzhtylen mark [--quanta LOW-HIGH] [--block] LIST HAND-IN..
+const MARK: &[u8] = b"ruzhtylen mark [--quanta LOW-HIGH] [--block] LIST HAND-IN..
 
 One HAND-IN: a line per job with its bound and its deadline, then passes, or fails and
 the jobs that have no bound up to their deadline. Several: a line per file.
 The status is 0 where all pass, 1 where one fails, 2 where one is refused or not read.
-",
-    )
-}
+";
 
-fn bounds(rt: &impl Print) -> Result<()> {
-    rt.write_all(
-        b"ruzhtylen bounds [--quanta LOW-HIGH] [--block] LIST CONFIGURATION
+const BOUNDS: &[u8] = b"ruzhtylen bounds [--quanta LOW-HIGH] [--block] LIST CONFIGURATION
 
 Prints a line per job, id level policy quantum bound; a job that is not placed, or has no
 bound up to its deadline, has bound 0. The status is 0 where no bound is 0, else 1.
-",
-    )
-}
+";
 
-fn explain(rt: &impl Print) -> Result<()> {
-    rt.write_all(
-        b"ruzhtylen explain [--quanta LOW-HIGH] [--block] LIST CONFIGURATION
+const EXPLAIN: &[u8] = b"ruzhtylen explain [--quanta LOW-HIGH] [--block] LIST CONFIGURATION
 
 Prints two lines per job: the sum that makes its bound, with its deadline; and the same as
 a bar of 50 columns up to the deadline, with the bound and the instance that decide.
@@ -98,24 +80,17 @@ the bound is the deadline.
 
 A job that is not placed, or has no bound up to its deadline, has one line that says so.
 The status is 0 where no bound is 0, else 1.
-",
-    )
-}
+";
 
 // What a configuration is.
-fn configuration(rt: &impl Print) -> Result<()> {
-    rt.write_all(
-        b"
+const CONFIGURATION: &[u8] = b"
 A configuration has a line per job, id level policy quantum, in the order of the list;
 the policy is none, fifo or rr, or 0, 1 or 2. A number after them and a line that begins
 with placed are passed over, so that a key can be handed in.
-",
-    )
-}
+";
 
-fn loader(rt: &impl Print) -> Result<()> {
-    rt.write_all(
-        b"ruzhtylen loader --priorities LOWEST-HIGHEST [--quanta LOW-HIGH] [--block] [--bytes]
+const LOADER: &[u8] =
+    b"ruzhtylen loader --priorities LOWEST-HIGHEST [--quanta LOW-HIGH] [--block] [--bytes]
                  LIST CONFIGURATION
 ruzhtylen loader --back --priorities LOWEST-HIGHEST [--quanta LOW-HIGH] [--block] [--bytes]
                  LIST RECORDS
@@ -131,61 +106,40 @@ comes back as it was. With --block the files are blocks.
 
   ruzhtylen loader --priorities 1-99 --bytes list.txt key.txt >box.table
   ruzhtylen loader --priorities 1-99 --bytes --back list.txt box.table
-",
-    )
-}
+";
 
-fn block(rt: &impl Print) -> Result<()> {
-    rt.write_all(
-        b"ruzhtylen block [--configuration] FILE
+const BLOCK: &[u8] = b"ruzhtylen block [--configuration] FILE
 
 Writes the block of a text: 8 bytes per job (id, delay, cost, period, deadline; the last
 three have two bytes each, the high byte first), or 4 per record of a configuration (id,
 level, policy, quantum). Nothing is judged.
-",
-    )
-}
+";
 
-fn text(rt: &impl Print) -> Result<()> {
-    rt.write_all(
-        b"ruzhtylen text [--configuration] FILE
+const TEXT: &[u8] = b"ruzhtylen text [--configuration] FILE
 
 Writes the text of a block, as block reads it. Nothing but its size is judged.
-",
-    )
-}
+";
 
-fn install(rt: &impl Print) -> Result<()> {
-    rt.write_all(
-        b"ruzhtylen install PREFIX
+const INSTALL: &[u8] = b"ruzhtylen install PREFIX
 
 In a clone: builds the program and the library, and puts bin/ruzhtylen with its program in
 libexec/ruzhtylen, lib/libruzhtylen.a, include/ruzhtylen.h and the manual page under PREFIX.
 They need no kit to be used.
-",
-    )
-}
+";
 
-// Whether both were written, and else why not: the later of the reasons.
-fn both(first: Result<()>, second: Result<()>) -> Result<()> {
-    match second {
-        Ok(()) => first,
-        Err(error) => Err(error),
-    }
-}
-
-// Says what a word does; what all words do where it is none. It gives whether all was written.
+// Says what a word does; what all words do where it is none. It gives whether all was written, and else why not: the later of the reasons.
 pub fn help(rt: &impl Print, word: Word) -> Result<()> {
-    match word {
-        Word::Key => both(key(rt), list(rt)),
-        Word::Mark => both(mark(rt), configuration(rt)),
-        Word::Bounds => both(bounds(rt), configuration(rt)),
-        Word::Explain => both(explain(rt), configuration(rt)),
-        Word::Loader => loader(rt),
-        Word::Block => block(rt),
-        Word::Text => text(rt),
-        Word::Install => install(rt),
-        Word::Help => rt.write_all(all_words()),
-        Word::Unknown => rt.write_all(all_words()),
-    }
+    let (text, more): (&[u8], &[u8]) = match word {
+        Word::Key => (KEY, LIST),
+        Word::Mark => (MARK, CONFIGURATION),
+        Word::Bounds => (BOUNDS, CONFIGURATION),
+        Word::Explain => (EXPLAIN, CONFIGURATION),
+        Word::Loader => (LOADER, b""),
+        Word::Block => (BLOCK, b""),
+        Word::Text => (TEXT, b""),
+        Word::Install => (INSTALL, b""),
+        Word::Help | Word::Unknown => (all_words(), b""),
+    };
+    let first = rt.write_all(text);
+    rt.write_all(more).and(first)
 }

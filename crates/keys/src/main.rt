@@ -2,44 +2,41 @@
 // and its length in bytes.
 #![tactic(auto)]
 
-const STDIN_FILENO: i32 = 0;
+use std::io;
+use std::io::Read;
 
-const STDOUT_FILENO: i32 = 1;
-
-// A loop has to end: after more blocks than anyone can write.
-const MOST: u64 = 0xFFFF_FFFF_FFFF_FFFF;
-
-// Prints the key of the block that comes next, and that fills `block`.
-fn print_key(low: u8, high: u8, block: &mut [u8]) {
-    let got = io::read_full(STDIN_FILENO, &mut *block);
+// Prints the key of a block.
+fn print_key(rt: &impl Print, low: u8, high: u8, block: &[u8]) {
     let mut output = [0u8; text::key::SIZE];
-    let length = text::key::key(&block[..got], low, high, &mut output);
-    io::write_all(STDOUT_FILENO, &output[..length]);
+    let length = text::key::key(block, low, high, &mut output);
+    // A key that cannot be written has nobody to be told to.
+    let _ = rt.write_all(&output[..length]);
 }
 
-// The same, for a block of so many bytes.
-fn print_sized(low: u8, high: u8, size: u8) {
-    let mut block = [0u8; 255];
-    print_key(low, high, &mut block[..size as usize]);
-}
-
-// The same, with its three numbers before it; false where the input ends.
-fn print_next() -> bool {
+// Prints the key of the block that comes next, with its three numbers before it. An error is the end of the input.
+fn print_next(rt: &impl Print, input: &mut impl Read) -> io::Result<()> {
     let mut header = [0u8; 3];
-    let got = io::read_full(STDIN_FILENO, &mut header);
-    if got < 3 {
-        return false;
-    }
-    print_sized(header[0], header[1], header[2]);
-    true
+    input.read_exact(&mut header)?;
+    let [low, high, size] = header;
+    let mut buffer = [0u8; 255];
+    let mut rest = &mut buffer[..usize::from(size)];
+    // Of a block that the input cuts short, what there is counts.
+    let _ = io::copy(&mut input.take(u64::from(size)), &mut rest);
+    let left = rest.len();
+    print_key(
+        rt,
+        low,
+        high,
+        &buffer[..usize::from(size).saturating_sub(left)],
+    );
+    Ok(())
 }
 
-fn main() {
-    let mut left = MOST;
-    while left > 0 {
-        if !print_next() {
+fn main(rt: HostRuntime) {
+    let mut input = rt.reader();
+    for _ in 0..u64::MAX {
+        if print_next(&rt, &mut input).is_err() {
             return;
         }
-        left -= 1;
     }
 }

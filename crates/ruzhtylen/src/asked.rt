@@ -1,24 +1,32 @@
 // What the arguments after the word ask for.
-use crate::{say, slices};
+use crate::say::Failure;
+use crate::{arguments, say};
 use command::Argument;
+use command::span::Quanta;
+use kernel::priority::KernelPriority;
 use std::env::FillError;
 use std::rt::Env;
 
-// The options and the names. What is wrong has been said where it is faulty. The first and the second name are the arguments of these
-// numbers; `inputs` counts those that are standard input; `awaits` is set before the numbers that follow an option, `of_priorities` where
-// these are priorities and no quanta, and `ended` after the end of the options.
+// The lowest and the highest priority that a kernel has.
+#[derive(Clone, Copy)]
+pub struct Priorities {
+    pub lowest: KernelPriority,
+    pub highest: KernelPriority,
+}
+
+// An option that has a range after it.
+#[derive(Clone, Copy)]
+enum Ranged {
+    Quanta,
+    Priorities,
+}
+
+// The options and the names. The first and the second name are the arguments of these numbers; `inputs` counts the names that are standard
+// input; `awaiting` is the option whose range is the next argument, and `ended` says that no more options follow.
 #[derive(Clone, Copy)]
 pub struct Asked {
-    pub faulty: bool,
-    pub awaits: bool,
-    pub of_priorities: bool,
-    pub ended: bool,
-    pub ranged: bool,
-    pub low: u8,
-    pub high: u8,
-    pub prioritised: bool,
-    pub lowest: u8,
-    pub highest: u8,
+    pub quanta: Option<Quanta>,
+    pub priorities: Option<Priorities>,
     pub blocks: bool,
     pub configuration: bool,
     pub back: bool,
@@ -26,223 +34,13 @@ pub struct Asked {
     pub names: u32,
     pub first: usize,
     pub second: usize,
-    pub inputs: u32,
+    inputs: u32,
+    awaiting: Option<Ranged>,
+    ended: bool,
 }
 
 // The most arguments that are looked at, which no system hands over.
-pub const MOST: usize = 1000000000;
-
-pub fn nothing() -> Asked {
-    Asked {
-        faulty: false,
-        awaits: false,
-        of_priorities: false,
-        ended: false,
-        ranged: false,
-        low: 1,
-        high: 4,
-        prioritised: false,
-        lowest: 0,
-        highest: 0,
-        blocks: false,
-        configuration: false,
-        back: false,
-        bytes: false,
-        names: 0,
-        first: 0,
-        second: 0,
-        inputs: 0,
-    }
-}
-
-fn with_fault(asked: Asked, text: &[u8]) -> Asked {
-    let mut next = asked;
-    if !next.faulty {
-        say::message(b"ruzhtylen: ");
-        say::message(text);
-    }
-    next.faulty = true;
-    next
-}
-
-fn with_range(asked: Asked, word: &[u8]) -> Asked {
-    let mut next = asked;
-    next.awaits = false;
-    let span = command::span::read_span(word);
-    match span {
-        Some(span) => {
-            next.ranged = true;
-            next.low = span.low;
-            next.high = span.high;
-            next
-        }
-        None => with_fault(
-            next,
-            b"--quanta takes the lowest and the highest quantum, up to 64, with a hyphen between, as 1-4\n",
-        ),
-    }
-}
-
-fn with_priorities(asked: Asked, word: &[u8]) -> Asked {
-    let mut next = asked;
-    next.awaits = false;
-    let span = command::span::read_span(word);
-    match span {
-        Some(span) => {
-            next.prioritised = true;
-            next.lowest = span.low;
-            next.highest = span.high;
-            next
-        }
-        None => with_fault(
-            next,
-            b"--priorities takes the kernel's lowest and highest priority, up to 255, with a hyphen between, as 1-99\n",
-        ),
-    }
-}
-
-// One more, short of the largest.
-fn more(n: u32) -> u32 {
-    if n < 4294967295 { n + 1 } else { n }
-}
-
-fn with_name(asked: Asked, i: usize, word: &[u8]) -> Asked {
-    let mut next = asked;
-    if next.names == 0 {
-        next.first = i;
-    }
-    if next.names == 1 {
-        next.second = i;
-    }
-    next.names = more(next.names);
-    if word.len() == 0 {
-        return with_fault(next, b"a file's name is empty\n");
-    }
-    if same_bytes::same_bytes(word, b"-") {
-        next.inputs = more(next.inputs);
-    }
-    next
-}
-
-// Before the numbers of an option.
-fn awaiting(asked: Asked, of_priorities: bool) -> Asked {
-    let mut next = asked;
-    if of_priorities {
-        if next.prioritised {
-            return with_fault(next, b"--priorities is given twice\n");
-        }
-    } else {
-        if next.ranged {
-            return with_fault(next, b"--quanta is given twice\n");
-        }
-    }
-    next.awaits = true;
-    next.of_priorities = of_priorities;
-    next
-}
-
-fn with_option(asked: Asked, argument: Argument) -> Asked {
-    let mut next = asked;
-    match argument {
-        Argument::Quanta => awaiting(next, false),
-        Argument::Priorities => awaiting(next, true),
-        Argument::Blocks => {
-            next.blocks = true;
-            next
-        }
-        Argument::Configuration => {
-            next.configuration = true;
-            next
-        }
-        Argument::Back => {
-            next.back = true;
-            next
-        }
-        Argument::Bytes => {
-            next.bytes = true;
-            next
-        }
-        Argument::End => {
-            next.ended = true;
-            next
-        }
-        Argument::UnknownOption => next,
-        Argument::Name => next,
-    }
-}
-
-// An option that there is not, which is argument i.
-fn with_unknown(rt: &impl Env, asked: Asked, i: usize) -> Asked {
-    if asked.faulty {
-        return asked;
-    }
-    let mut next = asked;
-    say::message(b"ruzhtylen: unknown option ");
-    say::argument(rt, i);
-    say::message(b"; after -- a name may begin with --\n");
-    next.faulty = true;
-    next
-}
-
-fn is_unknown(argument: Argument) -> bool {
-    match argument {
-        Argument::Quanta => false,
-        Argument::Priorities => false,
-        Argument::Blocks => false,
-        Argument::Configuration => false,
-        Argument::Back => false,
-        Argument::Bytes => false,
-        Argument::End => false,
-        Argument::UnknownOption => true,
-        Argument::Name => false,
-    }
-}
-
-fn is_name(argument: Argument) -> bool {
-    match argument {
-        Argument::Quanta => false,
-        Argument::Priorities => false,
-        Argument::Blocks => false,
-        Argument::Configuration => false,
-        Argument::Back => false,
-        Argument::Bytes => false,
-        Argument::End => false,
-        Argument::UnknownOption => false,
-        Argument::Name => true,
-    }
-}
-
-fn with_word(rt: &impl Env, asked: Asked, i: usize, word: &[u8]) -> Asked {
-    if asked.awaits {
-        if asked.of_priorities {
-            return with_priorities(asked, word);
-        }
-        return with_range(asked, word);
-    }
-    if asked.ended {
-        return with_name(asked, i, word);
-    }
-    let argument = command::argument_of(word);
-    if is_name(argument) {
-        return with_name(asked, i, word);
-    }
-    if is_unknown(argument) {
-        return with_unknown(rt, asked, i);
-    }
-    with_option(asked, argument)
-}
-
-// What is asked with argument i too.
-pub fn with_argument(rt: &impl Env, asked: Asked, i: usize) -> Asked {
-    let mut word = io::buffer();
-    match rt.arg(i, &mut word) {
-        Ok(length) => {
-            let end = slices::within(length, &word);
-            with_word(rt, asked, i, &word[..end])
-        }
-        Err(_) => with_fault(asked, b"an argument is longer than 4096 bytes\n"),
-    }
-}
+const MOST: usize = 1000000000;
 
 // How many arguments there are. Only whether there is one is asked, so that a byte of it is enough.
 pub fn count(rt: &impl Env) -> usize {
@@ -255,37 +53,160 @@ pub fn count(rt: &impl Env) -> usize {
     MOST
 }
 
-// That the numbers of an option are missing.
-fn with_missing(asked: Asked) -> Asked {
-    if asked.of_priorities {
-        return with_fault(asked, b"--priorities needs a range after it, as 1-99\n");
-    }
-    with_fault(asked, b"--quanta needs a range after it, as 1-4\n")
+fn fault(text: &[u8]) -> Failure {
+    say::message(b"ruzhtylen: ");
+    say::message(text);
+    Failure::NotAnswered
 }
 
-// What all arguments after the word ask for.
-pub fn read(rt: &impl Env) -> Asked {
-    let count = count(rt);
-    let mut asked = nothing();
-    let mut i = 2;
-    while i < count {
-        let next = with_argument(rt, asked, i);
-        asked = next;
-        i += 1;
-    }
-    if asked.awaits {
-        return with_missing(asked);
-    }
-    if 1 < asked.inputs {
-        return with_fault(asked, b"standard input can be read only once\n");
-    }
-    asked
+// That argument i is an option that there is not.
+fn unknown(rt: &impl Env, i: usize) -> Failure {
+    say::message(b"ruzhtylen: unknown option ");
+    say::argument(rt, i);
+    say::message(b"; after -- a name may begin with --\n");
+    Failure::NotAnswered
 }
 
-// Whether the argument between the two is a name, and not the first one.
-pub fn is_later_name(before: Asked, after: Asked) -> bool {
-    if before.names == 0 {
-        return false;
+impl Ranged {
+    fn wrong(self) -> Failure {
+        match self {
+            Ranged::Quanta => fault(
+                b"--quanta takes the lowest and the highest quantum, up to 64, with a hyphen between, as 1-4\n",
+            ),
+            Ranged::Priorities => fault(
+                b"--priorities takes the kernel's lowest and highest priority, up to 255, with a hyphen between, as 1-99\n",
+            ),
+        }
     }
-    before.names < after.names
+
+    fn twice(self) -> Failure {
+        match self {
+            Ranged::Quanta => fault(b"--quanta is given twice\n"),
+            Ranged::Priorities => fault(b"--priorities is given twice\n"),
+        }
+    }
+
+    fn missing(self) -> Failure {
+        match self {
+            Ranged::Quanta => fault(b"--quanta needs a range after it, as 1-4\n"),
+            Ranged::Priorities => fault(b"--priorities needs a range after it, as 1-99\n"),
+        }
+    }
+}
+
+impl Asked {
+    pub const NOTHING: Asked = Asked {
+        quanta: None,
+        priorities: None,
+        blocks: false,
+        configuration: false,
+        back: false,
+        bytes: false,
+        names: 0,
+        first: 0,
+        second: 0,
+        inputs: 0,
+        awaiting: None,
+        ended: false,
+    };
+
+    fn has(&self, option: Ranged) -> bool {
+        match option {
+            Ranged::Quanta => self.quanta.is_some(),
+            Ranged::Priorities => self.priorities.is_some(),
+        }
+    }
+
+    fn take_ranged(&mut self, option: Ranged) -> Result<(), Failure> {
+        if self.has(option) {
+            return Err(option.twice());
+        }
+        self.awaiting = Some(option);
+        Ok(())
+    }
+
+    fn take_range(&mut self, option: Ranged, word: &[u8]) -> Result<(), Failure> {
+        let Some(span) = command::span::read_span(word) else {
+            return Err(option.wrong());
+        };
+        self.awaiting = None;
+        match option {
+            Ranged::Quanta => self.quanta = Some(span),
+            Ranged::Priorities => {
+                self.priorities = Some(Priorities {
+                    lowest: KernelPriority(span.low),
+                    highest: KernelPriority(span.high),
+                });
+            }
+        }
+        Ok(())
+    }
+
+    fn take_name(&mut self, i: usize, word: &[u8]) -> Result<(), Failure> {
+        match self.names {
+            0 => self.first = i,
+            1 => self.second = i,
+            _ => {}
+        }
+        self.names = self.names.saturating_add(1);
+        if word.is_empty() {
+            return Err(fault(b"a file's name is empty\n"));
+        }
+        if word == b"-".as_slice() {
+            self.inputs = self.inputs.saturating_add(1);
+        }
+        Ok(())
+    }
+
+    fn take_word(&mut self, rt: &impl Env, i: usize, word: &[u8]) -> Result<(), Failure> {
+        if let Some(option) = self.awaiting {
+            return self.take_range(option, word);
+        }
+        if self.ended {
+            return self.take_name(i, word);
+        }
+        match command::argument_of(word) {
+            Argument::Quanta => return self.take_ranged(Ranged::Quanta),
+            Argument::Priorities => return self.take_ranged(Ranged::Priorities),
+            Argument::Blocks => self.blocks = true,
+            Argument::Configuration => self.configuration = true,
+            Argument::Back => self.back = true,
+            Argument::Bytes => self.bytes = true,
+            Argument::End => self.ended = true,
+            Argument::UnknownOption => return Err(unknown(rt, i)),
+            Argument::Name => return self.take_name(i, word),
+        }
+        Ok(())
+    }
+
+    // Takes argument i to what is asked. What is wrong with it has been said.
+    pub fn take(&mut self, rt: &impl Env, i: usize) -> Result<(), Failure> {
+        let mut buffer = [0u8; arguments::SIZE];
+        match rt.arg(i, &mut buffer) {
+            Ok(length) => self.take_word(rt, i, &buffer[..length]),
+            Err(_) => Err(fault(b"an argument is longer than 4096 bytes\n")),
+        }
+    }
+
+    // The same, and whether the argument is a name after the first.
+    pub fn take_later_name(&mut self, rt: &impl Env, i: usize) -> Result<bool, Failure> {
+        let before = self.names;
+        self.take(rt, i)?;
+        Ok(0 < before && before < self.names)
+    }
+
+    // What all arguments after the word ask for.
+    pub fn read(rt: &impl Env) -> Result<Asked, Failure> {
+        let mut asked = Asked::NOTHING;
+        for i in 2..count(rt) {
+            asked.take(rt, i)?;
+        }
+        if let Some(option) = asked.awaiting {
+            return Err(option.missing());
+        }
+        if 1 < asked.inputs {
+            return Err(fault(b"standard input can be read only once\n"));
+        }
+        Ok(asked)
+    }
 }

@@ -1,121 +1,102 @@
 // Marking: one hand-in in full, or several with a line each.
 use crate::asked::Asked;
+use crate::list::Accepted;
+use crate::say::{Answer, Failure, Outcome};
 use crate::source::Source;
-use crate::{asked, quanta, refused, say, slices, source};
-use command::span::Quanta;
+use crate::{asked, say};
 use lists::fields::Form;
+use records::refusal::Refusal;
 use std::rt::{Env, Files};
-use text::answer::Answered;
 
-// Prints what is due: of one hand-in all of the text, of several the name and the last line.
-fn print(rt: &(impl Env + Print), due: u8, i: usize, alone: bool, text: &[u8], last: usize) -> u8 {
-    if alone {
-        return say::answer(rt, due, text);
-    }
-    if text.len() < last {
-        return say::NOT_ANSWERED;
-    }
-    say::answer_about(rt, due, i, &text[last..])
-}
-
-// That a hand-in is refused, where several are marked.
-fn print_refused(rt: &(impl Env + Print), i: usize, number: u8) -> u8 {
-    let mut output = [0u8; text::key::SIZE];
-    let length = text::key::refused(number, &mut output);
-    say::answer_about(rt, say::NOT_ANSWERED, i, &output[..length])
-}
-
-fn mark_source(
-    rt: &(impl Env + Print),
-    i: usize,
+// What hand-ins are marked for. One that is alone is marked in full.
+#[derive(Clone, Copy)]
+struct Marking {
+    list: Accepted,
     alone: bool,
-    list: Source,
-    quanta: Quanta,
-    hand_in: Source,
-) -> u8 {
-    let jobs = list.bytes;
-    let jobs_kept = slices::within(list.kept, &jobs);
-    let bytes = hand_in.bytes;
-    let kept = slices::within(hand_in.kept, &bytes);
-    let mut output = [0u8; marking::SIZE];
-    let told = marking::marks(
-        &jobs[..jobs_kept],
-        quanta.low,
-        quanta.high,
-        &bytes[..kept],
-        &mut output,
-    );
-    let last = told.last;
-    let length = told.length;
-    let answer = told.answer;
-    match answer {
-        Answered::Yes => print(rt, say::YES, i, alone, &output[..length], last),
-        Answered::No => print(rt, say::NO, i, alone, &output[..length], last),
-        Answered::Refused(refusal) => {
-            let number = refusal.number();
-            let status = refused::refuse_hand_in(rt, i, hand_in, list, quanta, number);
-            if alone {
-                return status;
+    is_block: bool,
+}
+
+impl Marking {
+    // Prints what is due: of one hand-in all of the text, of several the name and the last line.
+    fn print(
+        &self,
+        rt: &(impl Env + Print),
+        due: Answer,
+        hand_in: &Source,
+        text: &[u8],
+        last: &[u8],
+    ) -> Outcome {
+        if self.alone {
+            return say::print_answer(rt, due, text);
+        }
+        say::print_about(rt, hand_in.index, last)?;
+        Ok(due)
+    }
+
+    // Says why a hand-in is refused, and where several are marked prints that it is.
+    fn refuse(&self, rt: &(impl Env + Print), hand_in: &Source, refusal: Refusal) -> Failure {
+        let failure = self.list.refuse_hand_in(rt, hand_in, refusal);
+        if self.alone {
+            return failure;
+        }
+        let mut output = [0u8; text::key::SIZE];
+        let length = text::key::refused(refusal.number(), &mut output);
+        not_answered_about(rt, hand_in.index, &output[..length])
+    }
+
+    fn mark_source(&self, rt: &(impl Env + Print), hand_in: &Source) -> Outcome {
+        let list = &self.list.list;
+        let mut output = [0u8; marking::SIZE];
+        let told = marking::marks(
+            list.block(),
+            list.quanta.low,
+            list.quanta.high,
+            hand_in.block.as_slice(),
+            &mut output,
+        );
+        match told {
+            Ok(told) => {
+                let text = &output[..told.length];
+                self.print(rt, told.yes.into(), hand_in, text, &text[told.last..])
             }
-            print_refused(rt, i, number)
+            Err(refusal) => Err(self.refuse(rt, hand_in, refusal)),
+        }
+    }
+
+    // Marks the hand-in that is argument i.
+    fn mark(&self, rt: &(impl Env + Files + Input + Print), i: usize) -> Outcome {
+        match Source::load(rt, i, Form::Setting, self.is_block) {
+            Ok(hand_in) => self.mark_source(rt, &hand_in),
+            Err(failure) if self.alone => Err(failure),
+            Err(_) => Err(not_answered_about(rt, i, b"not read\n")),
         }
     }
 }
 
-// Marks the hand-in that is argument i for a list and a range that are accepted.
-fn mark_one(
-    rt: &(impl Env + Files + Input + Print),
-    i: usize,
-    alone: bool,
-    is_block: bool,
-    list: Source,
-    quanta: Quanta,
-) -> u8 {
-    let hand_in = source::load(rt, i, Form::Setting, is_block);
-    if hand_in.ok {
-        return mark_source(rt, i, alone, list, quanta, hand_in);
+// Prints that the hand-in that is argument i is not answered.
+fn not_answered_about(rt: &(impl Env + Print), i: usize, text: &[u8]) -> Failure {
+    match say::print_about(rt, i, text) {
+        Ok(()) => Failure::NotAnswered,
+        Err(failure) => failure,
     }
-    if alone {
-        return say::NOT_ANSWERED;
-    }
-    say::answer_about(rt, say::NOT_ANSWERED, i, b"not read\n")
 }
 
 // Marks the hand-ins, which are the names after the first.
-fn mark_all(
-    rt: &(impl Env + Files + Input + Print),
-    asked: Asked,
-    list: Source,
-    quanta: Quanta,
-) -> u8 {
-    let count = asked::count(rt);
-    let alone = asked.names == 2;
-    let is_block = asked.blocks;
-    let mut seen = asked::nothing();
-    let mut status = say::YES;
-    let mut i = 2;
-    while i < count {
-        let next = asked::with_argument(rt, seen, i);
-        if asked::is_later_name(seen, next) {
-            status = say::worse(status, mark_one(rt, i, alone, is_block, list, quanta));
+pub fn mark(rt: &(impl Env + Files + Input + Print), asked: &Asked) -> Outcome {
+    let marking = Marking {
+        list: Accepted::load(rt, asked)?,
+        alone: asked.names == 2,
+        is_block: asked.blocks,
+    };
+    let mut seen = Asked::NOTHING;
+    let mut worst = Ok(Answer::Yes);
+    for i in 2..asked::count(rt) {
+        if seen.take_later_name(rt, i)? {
+            worst = worst.max(marking.mark(rt, i));
         }
-        if status == say::NOT_WRITTEN {
-            return status;
+        if worst == Err(Failure::NotWritten) {
+            return worst;
         }
-        seen = next;
-        i += 1;
     }
-    status
-}
-
-pub fn mark(rt: &(impl Env + Files + Input + Print), asked: Asked) -> u8 {
-    let list = source::load(rt, asked.first, Form::Job, asked.blocks);
-    if !list.ok {
-        return say::NOT_ANSWERED;
-    }
-    let quanta = quanta::quanta_of(asked, list);
-    if refused::is_refused(rt, asked.first, asked.ranged, list, quanta) {
-        return say::NOT_ANSWERED;
-    }
-    mark_all(rt, asked, list, quanta)
+    worst
 }

@@ -1,141 +1,104 @@
-// The tables of a box loader: a configuration as kernel records, and back. Each function gives the status.
-use crate::asked::Asked;
+// The tables of a box loader: a configuration as kernel records, and back.
+use crate::asked::{Asked, Priorities};
+use crate::list::Accepted;
+use crate::say::{Answer, Outcome};
 use crate::source::Source;
-use crate::{quanta, refused, say, slices, source, texts};
-use command::span::Quanta;
-use kernel::priority::KernelPriority;
+use crate::{say, texts};
 use kernel::record::KernelRecord;
 use lists::fields::Form;
 use records::job::Job;
-use records::refusal::{Counted, Verdict};
+use records::record;
 use std::rt::{Env, Files};
 
 // The bytes of the records of as many jobs as there can be.
 const SIZE: usize = KernelRecord::SIZE * Job::MOST;
 
 // Prints the kernel records in a block: its bytes, or a line per record.
-fn print_kernels(rt: &impl Print, as_bytes: bool, block: &[u8]) -> u8 {
+fn print_kernels(rt: &impl Print, as_bytes: bool, block: &[u8]) -> Outcome {
     if as_bytes {
-        return say::answer(rt, say::YES, block);
+        return say::print_answer(rt, Answer::Yes, block);
     }
-    let kernels = kernel::block::read_unjudged(block);
+    let kernels = record::read(block);
     let mut output = [0u8; tables::KERNEL_SIZE];
     let n = block.len() / KernelRecord::SIZE;
     let length = tables::put_kernel_table(kernels, n, &mut output);
-    say::answer(rt, say::YES, &output[..length])
+    say::print_answer(rt, Answer::Yes, &output[..length])
 }
 
-// The size of a record for each job of a list.
-fn need(list: Source) -> usize {
-    KernelRecord::SIZE * Job::at_most(list.kept / Job::SIZE)
+// The records of an output that a conversion has written, one for each job of the list.
+fn written<'a>(list: &Accepted, output: &'a [u8; SIZE]) -> &'a [u8] {
+    let size = KernelRecord::SIZE * Job::at_most(list.call.jobs.count);
+    &output[..output.len().min(size)]
 }
 
 fn there(
     rt: &(impl Env + Files + Input + Print),
-    asked: Asked,
-    list: Source,
-    quanta: Quanta,
-) -> u8 {
-    let hand_in = source::load(rt, asked.second, Form::Setting, asked.blocks);
-    if !hand_in.ok {
-        return say::NOT_ANSWERED;
-    }
-    let jobs = list.bytes;
-    let jobs_kept = slices::within(list.kept, &jobs);
-    let bytes = hand_in.bytes;
-    let kept = slices::within(hand_in.kept, &bytes);
+    asked: &Asked,
+    accepted: &Accepted,
+    priorities: Priorities,
+) -> Outcome {
+    let hand_in = Source::load(rt, asked.second, Form::Setting, asked.blocks)?;
+    let list = &accepted.list;
     let mut output = [0u8; SIZE];
     let answer = kernel::to_kernel(
-        &jobs[..jobs_kept],
-        quanta.low,
-        quanta.high,
-        KernelPriority(asked.lowest),
-        KernelPriority(asked.highest),
-        &bytes[..kept],
+        list.block(),
+        list.quanta.low,
+        list.quanta.high,
+        priorities.lowest,
+        priorities.highest,
+        hand_in.block.as_slice(),
         &mut output,
     );
-    if let Verdict::Refused(refusal) = answer {
-        return refused::refuse_hand_in(rt, asked.second, hand_in, list, quanta, refusal.number());
+    if let Err(refusal) = answer {
+        return Err(accepted.refuse_hand_in(rt, &hand_in, refusal));
     }
-    let size = slices::within(need(list), &output);
-    print_kernels(rt, asked.bytes, &output[..size])
+    print_kernels(rt, asked.bytes, written(accepted, &output))
 }
 
-fn is_block(asked: Asked) -> bool {
-    if asked.blocks { true } else { asked.bytes }
-}
-
-fn back(rt: &(impl Env + Files + Input + Print), asked: Asked, list: Source, quanta: Quanta) -> u8 {
-    let loaded = source::load(rt, asked.second, Form::Kernel, is_block(asked));
-    if !loaded.ok {
-        return say::NOT_ANSWERED;
-    }
-    let jobs = list.bytes;
-    let jobs_kept = slices::within(list.kept, &jobs);
-    let bytes = loaded.bytes;
-    let kept = slices::within(loaded.kept, &bytes);
-    let highest = KernelPriority(asked.highest);
+fn back(
+    rt: &(impl Env + Files + Input + Print),
+    asked: &Asked,
+    accepted: &Accepted,
+    priorities: Priorities,
+) -> Outcome {
+    let is_block = asked.blocks || asked.bytes;
+    let loaded = Source::load(rt, asked.second, Form::Kernel, is_block)?;
+    let list = &accepted.list;
     let mut output = [0u8; SIZE];
     let answer = kernel::from_kernel(
-        &jobs[..jobs_kept],
-        quanta.low,
-        quanta.high,
-        KernelPriority(asked.lowest),
-        highest,
-        &bytes[..kept],
+        list.block(),
+        list.quanta.low,
+        list.quanta.high,
+        priorities.lowest,
+        priorities.highest,
+        loaded.block.as_slice(),
         &mut output,
     );
-    if let Verdict::Refused(refusal) = answer {
-        return refused::refuse_kernels(
-            rt,
-            asked.second,
-            loaded,
-            list,
-            quanta,
-            highest,
-            refusal.number(),
-        );
+    if let Err(refusal) = answer {
+        return Err(accepted.refuse_kernels(rt, &loaded, priorities, refusal));
     }
-    let size = slices::within(need(list), &output);
-    texts::print_settings(rt, &output[..size])
+    texts::print_settings(rt, written(accepted, &output))
 }
 
-// Whether the priorities are refused for a list and a range that are accepted; then why is said.
-fn is_refused(rt: &impl Env, asked: Asked, list: Source, quanta: Quanta) -> bool {
-    let bytes = list.bytes;
-    let kept = slices::within(list.kept, &bytes);
-    let lowest = KernelPriority(asked.lowest);
-    let highest = KernelPriority(asked.highest);
-    let call = kernel::call::read_call(&bytes[..kept], quanta.low, quanta.high, lowest, highest);
-    let answer = call.answer;
-    if let Counted::Refused(refusal) = answer {
-        refused::refuse_priorities(
-            rt,
-            list,
-            kept / Job::SIZE,
-            lowest,
-            highest,
-            refusal.number(),
-        );
-        return true;
-    }
-    false
-}
-
-pub fn loader(rt: &(impl Env + Files + Input + Print), asked: Asked) -> u8 {
-    let list = source::load(rt, asked.first, Form::Job, asked.blocks);
-    if !list.ok {
-        return say::NOT_ANSWERED;
-    }
-    let quanta = quanta::quanta_of(asked, list);
-    if refused::is_refused(rt, asked.first, asked.ranged, list, quanta) {
-        return say::NOT_ANSWERED;
-    }
-    if is_refused(rt, asked, list, quanta) {
-        return say::NOT_ANSWERED;
+pub fn loader(
+    rt: &(impl Env + Files + Input + Print),
+    asked: &Asked,
+    priorities: Priorities,
+) -> Outcome {
+    let accepted = Accepted::load(rt, asked)?;
+    let list = &accepted.list;
+    let call = kernel::call::read_call(
+        list.block(),
+        list.quanta.low,
+        list.quanta.high,
+        priorities.lowest,
+        priorities.highest,
+    );
+    if let Err(refusal) = call {
+        return Err(accepted.refuse_priorities(rt, priorities, refusal));
     }
     if asked.back {
-        return back(rt, asked, list, quanta);
+        return back(rt, asked, &accepted, priorities);
     }
-    there(rt, asked, list, quanta)
+    there(rt, asked, &accepted, priorities)
 }

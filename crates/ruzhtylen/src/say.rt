@@ -1,36 +1,55 @@
 // What is written: answers on standard output, messages on standard error, and the status on a descriptor of its own. A write that fails
 // turns the status into 2, and one to standard error that fails has nobody to be told to.
-ghost use Rattle.io.specs.Counts.{IsPrefixLen};
-
-use crate::{arguments, slices};
+use crate::arguments;
 use std::fmt::InlineText;
 use std::io::Error;
 use std::rt::Env;
 
-// The statuses: answered, and yes; answered, and no; not answered.
-pub const YES: u8 = 0;
+// What is answered.
+#[derive(Clone, Copy, PartialEq, Eq, PartialOrd, Ord)]
+pub enum Answer {
+    Yes,
+    No,
+}
 
-pub const NO: u8 = 1;
+impl From<bool> for Answer {
+    fn from(yes: bool) -> Answer {
+        if yes { Answer::Yes } else { Answer::No }
+    }
+}
 
-pub const NOT_ANSWERED: u8 = 2;
+// That nothing is answered. Why has been said.
+#[derive(Clone, Copy, PartialEq, Eq, PartialOrd, Ord)]
+pub enum Failure {
+    NotAnswered,
+    // Standard output cannot be written, after which nothing more is asked.
+    NotWritten,
+}
 
-// Not answered because standard output cannot be written, after which nothing more is asked. It is told as 2.
-pub const NOT_WRITTEN: u8 = 3;
+// How a call ends. The worse of two is the greater.
+pub type Outcome = Result<Answer, Failure>;
 
-// The descriptors of the messages and of the status. The status has one of its own, so that a program that was ended tells none.
+// The descriptors of the messages and of the status. A name in a message need not be text, which is all that std's Eprint takes. The status
+// has a descriptor of its own, so that a program that was ended tells none; std writes to no other than the three standard ones.
 const STDERR_FILENO: i32 = 2;
 
 const STATUS_FILENO: i32 = 3;
 
-// Writes to standard output, and gives the status: the one that is due, or that it could not be written.
-pub fn answer(rt: &impl Print, due: u8, text: &[u8]) -> u8 {
+// Writes to standard output.
+fn print(rt: &impl Print, text: &[u8]) -> Result<(), Failure> {
     match rt.write_all(text) {
-        Ok(()) => due,
+        Ok(()) => Ok(()),
         Err(error) => {
             fail(b"standard output", error);
-            NOT_WRITTEN
+            Err(Failure::NotWritten)
         }
     }
+}
+
+// Writes an answer to standard output.
+pub fn print_answer(rt: &impl Print, answer: Answer, text: &[u8]) -> Outcome {
+    print(rt, text)?;
+    Ok(answer)
 }
 
 pub fn message(text: &[u8]) {
@@ -46,83 +65,62 @@ fn words_of(text: &str) -> &str {
 }
 
 // A message of what failed, and why.
-pub fn fail(what: &[u8], error: Error) {
+pub fn fail(what: &[u8], error: Error) -> Failure {
     let text = InlineText::<128>::of(error);
     message(what);
     message(b": ");
     message(words_of(text.as_str()).as_bytes());
     message(b"\n");
+    Failure::NotAnswered
 }
 
-// The larger of two statuses.
-pub fn worse(a: u8, b: u8) -> u8 {
-    if a < b { b } else { a }
-}
-
-// Puts a text at the start of a buffer, as far as there is room, and gives how many bytes that are.
-fn put(text: &[u8], buffer: &mut [u8]) -> usize
-    ensures { IsPrefixLen result buffer.new }
-{
-    let length = text.len().min(buffer.len());
-    buffer[..length].copy_from_slice(&text[..length]);
-    slices::within(length, buffer)
-}
-
-// Puts argument i, as it is shown, at the start of a buffer of 4096 bytes, and gives its length.
-fn put_argument(rt: &impl Env, i: usize, shown: &mut [u8]) -> usize
-    ensures { IsPrefixLen result shown.new }
-{
-    match rt.arg(i, &mut *shown) {
+// Argument i as it is shown, which is put into a buffer of `arguments::SIZE` bytes.
+pub fn shown<'a>(rt: &impl Env, i: usize, buffer: &'a mut [u8]) -> &'a [u8] {
+    match rt.arg(i, buffer) {
         Ok(length) => {
-            command::show(&mut *shown);
-            slices::within(length, shown)
+            command::show(buffer);
+            &buffer[..length]
         }
-        Err(_) => put(b"of more than 4096 bytes", shown),
+        Err(_) => b"of more than 4096 bytes",
     }
 }
 
 // The same of a file's name; `-` is standard input.
-fn put_name(rt: &impl Env, i: usize, shown: &mut [u8]) -> usize
-    ensures { IsPrefixLen result shown.new }
-{
-    let length = arguments::read(rt, i, &mut *shown);
-    if same_bytes::same_bytes(&shown[..length], b"-") {
-        return put(b"standard input", shown);
+fn shown_name<'a>(rt: &impl Env, i: usize, buffer: &'a mut [u8]) -> &'a [u8] {
+    if arguments::is_input(rt, i) {
+        return b"standard input";
     }
-    put_argument(rt, i, shown)
+    shown(rt, i, buffer)
 }
 
 // Argument i, within a message, as it is shown.
 pub fn argument(rt: &impl Env, i: usize) {
-    let mut argument = io::buffer();
-    let shown = put_argument(rt, i, &mut argument);
-    message(&argument[..shown]);
+    let mut buffer = [0u8; arguments::SIZE];
+    message(shown(rt, i, &mut buffer));
 }
 
 // A message about the file that is argument i.
 pub fn about(rt: &impl Env, i: usize, text: &[u8]) {
-    let mut name = io::buffer();
-    let shown = put_name(rt, i, &mut name);
-    message(&name[..shown]);
+    let mut buffer = [0u8; arguments::SIZE];
+    message(shown_name(rt, i, &mut buffer));
     message(b": ");
     message(text);
 }
 
 // A line of standard output about the file that is argument i.
-pub fn answer_about(rt: &(impl Env + Print), due: u8, i: usize, text: &[u8]) -> u8 {
-    let mut name = io::buffer();
-    let shown = put_name(rt, i, &mut name);
-    if answer(rt, due, &name[..shown]) == NOT_WRITTEN {
-        return NOT_WRITTEN;
-    }
-    if answer(rt, due, b": ") == NOT_WRITTEN {
-        return NOT_WRITTEN;
-    }
-    answer(rt, due, text)
+pub fn print_about(rt: &(impl Env + Print), i: usize, text: &[u8]) -> Result<(), Failure> {
+    let mut buffer = [0u8; arguments::SIZE];
+    print(rt, shown_name(rt, i, &mut buffer))?;
+    print(rt, b": ")?;
+    print(rt, text)
 }
 
 // Writes the status. Where nobody listens it is lost, and the command takes a missing status for 2.
-pub fn status(status: u8) {
-    let digit = if status < 2 { b'0' + status } else { b'2' };
-    io::write_all(STATUS_FILENO, &[digit]);
+pub fn status(outcome: Outcome) {
+    let digit = match outcome {
+        Ok(Answer::Yes) => b"0",
+        Ok(Answer::No) => b"1",
+        Err(_) => b"2",
+    };
+    io::write_all(STATUS_FILENO, digit);
 }

@@ -2,133 +2,108 @@
 // text is read, and its block is not judged.
 ghost use Rattle.std.specs.Prelude.{◌≤◌};
 
-use crate::{files, say, slices};
-use lists::fault::Fault;
+use crate::say::Failure;
+use crate::{files, say};
+use command::span::Quanta;
 use lists::fields::Form;
+use lists::rows::{FaultyLine, SaidRange};
 use messages::refusal::Naming;
 use records::job::Job;
 use std::rt::{Env, Files};
 
-// A byte more than the longest block, so that a longer one shows.
-pub const SIZE: usize = 65;
+// The first bytes of a block: at most one more than the longest block has, so that a longer one shows.
+#[derive(Clone, Copy)]
+pub struct Block {
+    bytes: [u8; Block::SIZE],
+    kept: usize,
+    ghost fits: { kept ≤ 65 },
+}
 
-// The block's first bytes and how many they are; the size of the whole; how its records are named; and the range that a list says. Where it
-// is not ok, why has been said.
+impl Block {
+    pub const SIZE: usize = 65;
+
+    fn of(block: &[u8]) -> Block {
+        let mut bytes = [0u8; Block::SIZE];
+        let kept = block.len().min(Block::SIZE);
+        bytes[..kept].copy_from_slice(&block[..kept]);
+        Block { bytes, kept }
+    }
+
+    pub fn as_slice(&self) -> &[u8] {
+        &self.bytes[..self.kept]
+    }
+}
+
+// What is in the file that is argument `index`: the block, the size of the whole, how its records are named, and the range that a list says.
 #[derive(Clone, Copy)]
 pub struct Source {
-    pub ok: bool,
-    pub bytes: [u8; SIZE],
-    pub kept: usize,
+    pub index: usize,
+    pub block: Block,
     pub size: u32,
     pub naming: Naming,
     pub lines: [u32; Job::MOST],
-    pub ranged: bool,
-    pub low: u8,
-    pub high: u8,
+    pub quanta: Option<Quanta>,
 }
 
-fn failed() -> Source {
-    Source {
-        ok: false,
-        bytes: [0u8; SIZE],
-        kept: 0,
-        size: 0,
-        naming: Naming::Record,
-        lines: [0u32; Job::MOST],
-        ranged: false,
-        low: 0,
-        high: 0,
+// A line's number, which a text that is read has fewer of than a number of 32 bits counts.
+fn line_number(line: usize) -> u32 {
+    (line % 4294967296) as u32
+}
+
+// A range that a text says, which is read only where its numbers fit a byte.
+fn quanta_of(range: SaidRange) -> Quanta {
+    Quanta {
+        low: (range.low % 256) as u8,
+        high: (range.high % 256) as u8,
     }
 }
 
-fn at_most(n: usize, most: usize) -> usize
-    ensures { (result ≤ n) × (result ≤ most) }
-{
-    if n < most { n } else { most }
-}
-
-// The first bytes of a block.
-fn first_bytes(block: &[u8]) -> [u8; SIZE] {
-    let kept = at_most(block.len(), SIZE);
-    let mut bytes = [0u8; SIZE];
-    let mut i = 0;
-    while i < kept {
-        bytes[i] = block[i];
-        i += 1;
-    }
-    bytes
-}
-
-fn of_block(block: &[u8]) -> Source {
-    let kept = at_most(block.len(), SIZE);
-    Source {
-        ok: true,
-        bytes: first_bytes(block),
-        kept,
-        size: at_most(block.len(), files::SIZE) as u32,
-        naming: Naming::Record,
-        lines: [0u32; Job::MOST],
-        ranged: false,
-        low: 0,
-        high: 0,
-    }
-}
-
-// The numbers of the lines, which a text that is read has fewer of than a number of 32 bits counts.
-fn line_numbers(at: [usize; Job::MOST]) -> [u32; Job::MOST] {
-    let mut lines = [0u32; Job::MOST];
-    let mut i = 0;
-    while i < Job::MOST {
-        lines[i] = (at[i] % 4294967296) as u32;
-        i += 1;
-    }
-    lines
-}
-
-fn say_fault(rt: &impl Env, i: usize, line: usize, fault: Fault) {
+fn fault(rt: &impl Env, index: usize, faulty: FaultyLine) -> Failure {
     let mut output = [0u8; messages::fault::SIZE];
-    let length = messages::fault::put_fault((line % 4294967296) as u32, fault, &mut output);
-    say::about(rt, i, &output[..length]);
+    let line = line_number(faulty.line);
+    let length = messages::fault::put_fault(line, faulty.fault, &mut output);
+    say::about(rt, index, &output[..length]);
+    Failure::NotAnswered
 }
 
-fn of_text(rt: &impl Env, i: usize, form: Form, content: &[u8]) -> Source {
-    let read = match lists::blocks::read_block(form, content) {
-        Ok(read) => read,
-        Err(faulty) => {
-            say_fault(rt, i, faulty.line, faulty.fault);
-            return failed();
+impl Source {
+    fn of_block(index: usize, block: &[u8]) -> Source {
+        Source {
+            index,
+            block: Block::of(block),
+            size: block.len().min(files::SIZE) as u32,
+            naming: Naming::Record,
+            lines: [0u32; Job::MOST],
+            quanta: None,
         }
-    };
-    let block = read.bytes;
-    let at = read.at;
-    let size = read.size;
-    let (ranged, low, high) = match read.range {
-        Some(range) => (true, (range.low % 256) as u8, (range.high % 256) as u8),
-        None => (false, 0, 0),
-    };
-    Source {
-        ok: true,
-        bytes: first_bytes(&block),
-        kept: size,
-        size: size as u32,
-        naming: Naming::Line,
-        lines: line_numbers(at),
-        ranged,
-        low,
-        high,
     }
-}
 
-// The list, the configuration or the kernel records in the file that is argument i.
-pub fn load(rt: &(impl Env + Files + Input), i: usize, form: Form, is_block: bool) -> Source {
-    let mut content = files::room();
-    let got = files::read(rt, i, &mut content);
-    if !got.ok {
-        return failed();
+    fn of_text(rt: &impl Env, index: usize, form: Form, content: &[u8]) -> Result<Source, Failure> {
+        match lists::blocks::read_block(form, content) {
+            Ok(read) => Ok(Source {
+                index,
+                block: Block::of(&read.bytes[..read.size]),
+                size: read.size as u32,
+                naming: Naming::Line,
+                lines: read.at.map(line_number),
+                quanta: read.range.map(quanta_of),
+            }),
+            Err(faulty) => Err(fault(rt, index, faulty)),
+        }
     }
-    let count = slices::within(got.count, &content);
-    if is_block {
-        return of_block(&content[..count]);
+
+    // The list, the configuration or the kernel records in the file that is argument `index`.
+    pub fn load(
+        rt: &(impl Env + Files + Input),
+        index: usize,
+        form: Form,
+        is_block: bool,
+    ) -> Result<Source, Failure> {
+        let mut room = [0u8; files::SIZE];
+        let content = files::read(rt, index, &mut room)?;
+        if is_block {
+            return Ok(Source::of_block(index, content));
+        }
+        Source::of_text(rt, index, form, content)
     }
-    of_text(rt, i, form, &content[..count])
 }

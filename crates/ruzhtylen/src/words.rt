@@ -1,165 +1,99 @@
-// What each word does with its files. Each function gives the status.
+// What each word does with its files.
 use crate::asked::Asked;
+use crate::list::{Accepted, List};
+use crate::say;
+use crate::say::{Answer, Failure, Outcome};
 use crate::source::Source;
-use crate::{quanta, refused, say, slices, source};
-use command::span::Quanta;
 use lists::fields::Form;
+use records::refusal::Refusal;
 use std::rt::{Env, Files};
-use text::answer::Answered;
 
 // The key of a list.
-pub fn key(rt: &(impl Env + Files + Input + Print), asked: Asked) -> u8 {
-    let list = source::load(rt, asked.first, Form::Job, asked.blocks);
-    if !list.ok {
-        return say::NOT_ANSWERED;
-    }
-    let quanta = quanta::quanta_of(asked, list);
-    let bytes = list.bytes;
-    let kept = slices::within(list.kept, &bytes);
+pub fn key(rt: &(impl Env + Files + Input + Print), asked: &Asked) -> Outcome {
+    let list = List::load(rt, asked)?;
     let mut output = [0u8; text::key::SIZE];
-    let keyed = text::key::answer_key(&bytes[..kept], quanta.low, quanta.high, &mut output);
-    let length = keyed.length;
-    let answer = keyed.answer;
-    match answer {
-        Answered::Yes => say::answer(rt, say::YES, &output[..length]),
-        Answered::No => say::answer(rt, say::NO, &output[..length]),
-        Answered::Refused(refusal) => {
-            refused::refuse_list(
-                rt,
-                asked.first,
-                asked.ranged,
-                list,
-                quanta,
-                refusal.number(),
-            )
-        }
+    let keyed = text::key::answer_key(list.block(), list.quanta.low, list.quanta.high, &mut output);
+    match keyed.answer {
+        Ok(yes) => say::print_answer(rt, yes.into(), &output[..keyed.length]),
+        Err(refusal) => Err(list.refuse(rt, refusal)),
     }
 }
 
-// Prints what is told of a configuration, or says why it is refused; the configuration is argument i.
-fn tell(
-    rt: &(impl Env + Print),
-    i: usize,
-    list: Source,
-    quanta: Quanta,
+// A list and a range that are accepted, and the configuration that is asked about.
+#[derive(Clone, Copy)]
+struct Case {
+    list: Accepted,
     hand_in: Source,
-    answer: Answered,
-    text: &[u8],
-) -> u8 {
-    match answer {
-        Answered::Yes => say::answer(rt, say::YES, text),
-        Answered::No => say::answer(rt, say::NO, text),
-        Answered::Refused(refusal) => {
-            refused::refuse_hand_in(rt, i, hand_in, list, quanta, refusal.number())
-        }
+}
+
+impl Case {
+    fn load(rt: &(impl Env + Files + Input), asked: &Asked) -> Result<Case, Failure> {
+        let list = Accepted::load(rt, asked)?;
+        let hand_in = Source::load(rt, asked.second, Form::Setting, asked.blocks)?;
+        Ok(Case { list, hand_in })
+    }
+
+    // Says why the configuration is refused.
+    fn refuse(&self, rt: &impl Env, refusal: Refusal) -> Failure {
+        self.list.refuse_hand_in(rt, &self.hand_in, refusal)
     }
 }
 
-// The bounds of a configuration for a list and a range that are accepted.
-fn bounds_of(
-    rt: &(impl Env + Print),
-    i: usize,
-    list: Source,
-    quanta: Quanta,
-    hand_in: Source,
-) -> u8 {
-    let jobs = list.bytes;
-    let jobs_kept = slices::within(list.kept, &jobs);
-    let bytes = hand_in.bytes;
-    let kept = slices::within(hand_in.kept, &bytes);
+// The bounds of a configuration.
+pub fn bounds(rt: &(impl Env + Files + Input + Print), asked: &Asked) -> Outcome {
+    let case = Case::load(rt, asked)?;
+    let list = &case.list.list;
     let mut output = [0u8; text::key::SIZE];
     let told = marking::bounds(
-        &jobs[..jobs_kept],
-        quanta.low,
-        quanta.high,
-        &bytes[..kept],
+        list.block(),
+        list.quanta.low,
+        list.quanta.high,
+        case.hand_in.block.as_slice(),
         &mut output,
     );
-    let length = told.length;
-    let answer = told.answer;
-    tell(rt, i, list, quanta, hand_in, answer, &output[..length])
+    match told {
+        Ok(told) => say::print_answer(rt, told.yes.into(), &output[..told.length]),
+        Err(refusal) => Err(case.refuse(rt, refusal)),
+    }
 }
 
 // Where the ticks of these bounds go.
-fn ticks_of(
-    rt: &(impl Env + Print),
-    i: usize,
-    list: Source,
-    quanta: Quanta,
-    hand_in: Source,
-) -> u8 {
-    let jobs = list.bytes;
-    let jobs_kept = slices::within(list.kept, &jobs);
-    let bytes = hand_in.bytes;
-    let kept = slices::within(hand_in.kept, &bytes);
+pub fn explain(rt: &(impl Env + Files + Input + Print), asked: &Asked) -> Outcome {
+    let case = Case::load(rt, asked)?;
+    let list = &case.list.list;
     let mut output = [0u8; explaining::SIZE];
     let told = explaining::explain(
-        &jobs[..jobs_kept],
-        quanta.low,
-        quanta.high,
-        &bytes[..kept],
+        list.block(),
+        list.quanta.low,
+        list.quanta.high,
+        case.hand_in.block.as_slice(),
         &mut output,
     );
-    let length = told.length;
-    let answer = told.answer;
-    tell(rt, i, list, quanta, hand_in, answer, &output[..length])
-}
-
-// The bounds of a configuration, or where their ticks go.
-fn of_configuration(rt: &(impl Env + Files + Input + Print), asked: Asked, explained: bool) -> u8 {
-    let list = source::load(rt, asked.first, Form::Job, asked.blocks);
-    if !list.ok {
-        return say::NOT_ANSWERED;
+    match told {
+        Ok(told) => say::print_answer(rt, told.yes.into(), &output[..told.length]),
+        Err(refusal) => Err(case.refuse(rt, refusal)),
     }
-    let quanta = quanta::quanta_of(asked, list);
-    if refused::is_refused(rt, asked.first, asked.ranged, list, quanta) {
-        return say::NOT_ANSWERED;
-    }
-    let hand_in = source::load(rt, asked.second, Form::Setting, asked.blocks);
-    if !hand_in.ok {
-        return say::NOT_ANSWERED;
-    }
-    if explained {
-        return ticks_of(rt, asked.second, list, quanta, hand_in);
-    }
-    bounds_of(rt, asked.second, list, quanta, hand_in)
-}
-
-pub fn bounds(rt: &(impl Env + Files + Input + Print), asked: Asked) -> u8 {
-    of_configuration(rt, asked, false)
-}
-
-pub fn explain(rt: &(impl Env + Files + Input + Print), asked: Asked) -> u8 {
-    of_configuration(rt, asked, true)
 }
 
 // The block of a text.
-pub fn block(rt: &(impl Env + Files + Input + Print), asked: Asked) -> u8 {
-    let form = form_of(asked);
-    let source = source::load(rt, asked.first, form, false);
-    if !source.ok {
-        return say::NOT_ANSWERED;
-    }
-    if source.ranged {
-        say::about(
-            rt,
-            asked.first,
-            b"note: a block does not hold the range of the line quanta\n",
-        );
-    }
-    if source.kept == 0 {
-        say::about(rt, asked.first, b"no line has a record\n");
-        return say::NOT_ANSWERED;
-    }
-    let bytes = source.bytes;
-    let kept = slices::within(source.kept, &bytes);
-    say::answer(rt, say::YES, &bytes[..kept])
-}
-
-fn form_of(asked: Asked) -> Form {
-    if asked.configuration {
+pub fn block(rt: &(impl Env + Files + Input + Print), asked: &Asked) -> Outcome {
+    let form = if asked.configuration {
         Form::Setting
     } else {
         Form::Job
+    };
+    let source = Source::load(rt, asked.first, form, false)?;
+    if source.quanta.is_some() {
+        say::about(
+            rt,
+            source.index,
+            b"note: a block does not hold the range of the line quanta\n",
+        );
     }
+    let block = source.block.as_slice();
+    if block.is_empty() {
+        say::about(rt, source.index, b"no line has a record\n");
+        return Err(Failure::NotAnswered);
+    }
+    say::print_answer(rt, Answer::Yes, block)
 }

@@ -2,38 +2,59 @@
 use crate::{reply, tables};
 use configuration::setting::Setting;
 use kernel::priority::KernelPriority;
-use marker::MarkAnswer;
-use planner::PlanAnswer;
+use planner::Planned;
 use records::job::Job;
+use records::record;
+use records::refusal::Refusal;
 
 // The bytes of a table of settings.
 const SETTINGS: usize = Setting::SIZE * Job::MOST;
 
-pub fn read_jobs(jobs: &[u8]) {
+// A count as a frame has it.
+fn counted(answer: Result<usize, Refusal>) -> Result<[u16; 1], Refusal> {
+    answer.map(|count| [(count % 65536) as u16])
+}
+
+fn judged(answer: Result<(), Refusal>) -> Result<[u16; 0], Refusal> {
+    answer.map(|()| [])
+}
+
+fn marked(answer: Result<bool, Refusal>) -> Result<[u16; 1], Refusal> {
+    answer.map(|passes| [u16::from(passes)])
+}
+
+fn planned(answer: Result<Planned, Refusal>) -> Result<[u16; 2], Refusal> {
+    answer.map(|plan| [u16::from(plan.placed), plan.considered])
+}
+
+pub fn read_jobs(rt: &impl Print, jobs: &[u8]) {
     let read = records::block::read_jobs(jobs);
-    let answer = read.answer;
-    let table = read.table;
+    // The records of a blank table are zeros.
     let mut bytes = [0u8; tables::TABLE];
-    records::block::write_unjudged(table, Job::MOST, &mut bytes);
-    reply::write_one(reply::counted(answer), &bytes);
+    if let Ok(jobs) = read {
+        let _ = record::write(&jobs.table, &mut bytes);
+    }
+    reply::write(rt, counted(read.map(|jobs| jobs.count)), &[&bytes]);
 }
 
-pub fn write_jobs(entries: &[u8], count: u16, output: &mut [u8]) {
-    let table = records::block::read_unjudged(entries);
-    let wrote = records::block::write_jobs(table, count as usize, &mut *output);
-    reply::write_one(reply::counted(wrote), output);
+pub fn write_jobs(rt: &impl Print, entries: &[u8], count: u16, output: &mut [u8]) {
+    let table = record::read(entries);
+    let wrote = records::block::write_jobs(table, usize::from(count), output);
+    reply::write(rt, counted(wrote), &[output]);
 }
 
-pub fn read_configuration(jobs: &[u8], low: u8, high: u8, configuration: &[u8]) {
+pub fn read_configuration(rt: &impl Print, jobs: &[u8], low: u8, high: u8, configuration: &[u8]) {
     let read = configuration::block::read_configuration(jobs, low, high, configuration);
-    let answer = read.answer;
-    let settings = read.settings;
+    // The records of a blank table are zeros.
     let mut bytes = [0u8; SETTINGS];
-    configuration::block::write_settings(settings, Job::MOST, &mut bytes);
-    reply::write_one(reply::counted(answer), &bytes);
+    if let Ok(settings) = read {
+        let _ = record::write(&settings.table, &mut bytes);
+    }
+    reply::write(rt, counted(read.map(|settings| settings.count)), &[&bytes]);
 }
 
 pub fn write_configuration(
+    rt: &impl Print,
     jobs: &[u8],
     low: u8,
     high: u8,
@@ -41,97 +62,117 @@ pub fn write_configuration(
     count: u16,
     output: &mut [u8],
 ) {
-    let settings = configuration::block::read_unjudged(entries);
+    let settings = record::read(entries);
     let wrote = configuration::block::write_configuration(
         jobs,
         low,
         high,
         settings,
-        count as usize,
-        &mut *output,
+        usize::from(count),
+        output,
     );
-    reply::write_one(reply::counted(wrote), output);
+    reply::write(rt, counted(wrote), &[output]);
 }
 
-pub fn bounds(jobs: &[u8], low: u8, high: u8, configuration: &[u8], output: &mut [u8]) {
-    let answer = marker::bounds(jobs, low, high, configuration, &mut *output);
-    reply::write_one(reply::judged(answer), output);
+pub fn bounds(
+    rt: &impl Print,
+    jobs: &[u8],
+    low: u8,
+    high: u8,
+    configuration: &[u8],
+    output: &mut [u8],
+) {
+    let answer = marker::bounds(jobs, low, high, configuration, output);
+    reply::write(rt, judged(answer), &[output]);
 }
 
-pub fn breakdown(jobs: &[u8], low: u8, high: u8, configuration: &[u8], output: &mut [u8]) {
-    let answer = breakdown::breakdown(jobs, low, high, configuration, &mut *output);
-    reply::write_one(reply::judged(answer), output);
+pub fn breakdown(
+    rt: &impl Print,
+    jobs: &[u8],
+    low: u8,
+    high: u8,
+    configuration: &[u8],
+    output: &mut [u8],
+) {
+    let answer = breakdown::breakdown(jobs, low, high, configuration, output);
+    reply::write(rt, judged(answer), &[output]);
 }
 
-fn write_mark(answer: MarkAnswer, output: &[u8]) {
-    let told = match answer {
-        MarkAnswer::Passes => reply::one(1),
-        MarkAnswer::Fails => reply::one(0),
-        MarkAnswer::Refused(refusal) => reply::refused(refusal),
-    };
-    reply::write_one(told, output);
+pub fn mark(
+    rt: &impl Print,
+    jobs: &[u8],
+    low: u8,
+    high: u8,
+    configuration: &[u8],
+    output: &mut [u8],
+) {
+    let answer = marker::mark(jobs, low, high, configuration, output);
+    reply::write(rt, marked(answer), &[output]);
 }
 
-pub fn mark(jobs: &[u8], low: u8, high: u8, configuration: &[u8], output: &mut [u8]) {
-    let answer = marker::mark(jobs, low, high, configuration, &mut *output);
-    write_mark(answer, output);
+pub fn gate_mark(
+    rt: &impl Print,
+    jobs: &[u8],
+    low: u8,
+    high: u8,
+    configuration: &[u8],
+    output: &mut [u8],
+) {
+    let answer = gate::gate_mark(jobs, low, high, configuration, output);
+    reply::write(rt, marked(answer), &[output]);
 }
 
-pub fn gate_mark(jobs: &[u8], low: u8, high: u8, configuration: &[u8], output: &mut [u8]) {
-    let answer = gate::gate_mark(jobs, low, high, configuration, &mut *output);
-    write_mark(answer, output);
+pub fn plan(
+    rt: &impl Print,
+    jobs: &[u8],
+    low: u8,
+    high: u8,
+    configuration: &mut [u8],
+    bounds: &mut [u8],
+) {
+    let answer = planner::plan(jobs, low, high, configuration, bounds);
+    reply::write(rt, planned(answer), &[configuration, bounds]);
 }
 
-fn write_plan(answer: PlanAnswer, configuration: &[u8], bounds: &[u8]) {
-    let told = match answer {
-        PlanAnswer::Planned(placed, considered) => reply::two(placed as u16, considered),
-        PlanAnswer::Refused(refusal) => reply::refused(refusal),
-    };
-    reply::write_two(told, configuration, bounds);
+pub fn gate_plan(
+    rt: &impl Print,
+    jobs: &[u8],
+    low: u8,
+    high: u8,
+    configuration: &mut [u8],
+    bounds: &mut [u8],
+) {
+    let answer = gate::gate_plan(jobs, low, high, configuration, bounds);
+    reply::write(rt, planned(answer), &[configuration, bounds]);
 }
 
-pub fn plan(jobs: &[u8], low: u8, high: u8, configuration: &mut [u8], bounds: &mut [u8]) {
-    let answer = planner::plan(jobs, low, high, &mut *configuration, &mut *bounds);
-    write_plan(answer, configuration, bounds);
+pub fn same_bytes(rt: &impl Print, a: &[u8], b: &[u8]) {
+    let same = same_bytes::same_bytes(a, b);
+    reply::write(rt, Ok([u16::from(same)]), &[]);
 }
 
-pub fn gate_plan(jobs: &[u8], low: u8, high: u8, configuration: &mut [u8], bounds: &mut [u8]) {
-    let answer = gate::gate_plan(jobs, low, high, &mut *configuration, &mut *bounds);
-    write_plan(answer, configuration, bounds);
-}
-
-pub fn same_bytes(a: &[u8], b: &[u8]) {
-    if same_bytes::same_bytes(a, b) {
-        reply::write_none(reply::one(1));
-    } else {
-        reply::write_none(reply::one(0));
-    }
-}
-
-pub fn edit(slice: &[u8], place: u16, cost: u16, period: u16, deadline: u16) {
-    let n = slice.len() / Job::SIZE;
+pub fn edit(rt: &impl Print, slice: &[u8], place: u16, cost: u16, period: u16, deadline: u16) {
     let edited = desk::held::edit_held(
         tables::jobs_in(slice),
-        n,
-        place as usize,
+        slice.len() / Job::SIZE,
+        usize::from(place),
         cost,
         period,
         deadline,
     );
-    let answer = edited.answer;
-    let after = edited.jobs;
-    let bytes = tables::job_bytes(after);
-    let end = tables::at_most(slice.len(), &bytes);
-    reply::write_one(reply::judged(answer), &bytes[..end]);
+    let bytes = tables::job_bytes(edited.jobs);
+    let end = slice.len().min(bytes.len());
+    reply::write(rt, judged(edited.answer), &[&bytes[..end]]);
 }
 
-pub fn key(jobs: &[u8], low: u8, high: u8) {
+pub fn key(rt: &impl Print, jobs: &[u8], low: u8, high: u8) {
     let mut output = [0u8; text::key::SIZE];
     let length = text::key::key(jobs, low, high, &mut output);
-    reply::write_one(reply::done(), &output[..length]);
+    reply::write(rt, Ok([]), &[&output[..length]]);
 }
 
 pub fn to_kernel(
+    rt: &impl Print,
     jobs: &[u8],
     low: u8,
     high: u8,
@@ -147,12 +188,13 @@ pub fn to_kernel(
         KernelPriority(lowest),
         KernelPriority(highest),
         configuration,
-        &mut *output,
+        output,
     );
-    reply::write_one(reply::judged(answer), output);
+    reply::write(rt, judged(answer), &[output]);
 }
 
 pub fn from_kernel(
+    rt: &impl Print,
     jobs: &[u8],
     low: u8,
     high: u8,
@@ -168,7 +210,7 @@ pub fn from_kernel(
         KernelPriority(lowest),
         KernelPriority(highest),
         kernel,
-        &mut *output,
+        output,
     );
-    reply::write_one(reply::judged(answer), output);
+    reply::write(rt, judged(answer), &[output]);
 }

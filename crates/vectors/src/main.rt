@@ -2,111 +2,107 @@
 // reference/README.md; a frame of an entry that is not known is read and not answered.
 #![tactic(auto)]
 
-use records::word::word_of;
-use tables::at_most;
+use std::io;
+use std::io::Read;
 
 mod calls;
 mod reply;
 mod tables;
 
-const STDIN_FILENO: i32 = 0;
+// A buffer that holds every block.
+const ROOM: usize = 65536;
 
-// A loop has to end: after more frames than anyone can write.
-const MOST: u64 = 0xFFFF_FFFF_FFFF_FFFF;
-
-// An input frame's length, its entry and how many numbers it has; the numbers as bytes, and those that are used.
+// An input frame's length, its entry and how many numbers it has.
 const HEAD: usize = 4;
 
+// The most bytes that numbers have, and how many numbers are used.
 const NUMBERS: usize = 510;
 
 const USED: usize = 4;
 
-// Reads a block into a buffer that holds every block, where there is one more; it gives the block's length.
-fn read_block(more: bool, buffer: &mut [u8]) -> u16 {
-    if !more {
-        return 0;
-    }
+// Fills a buffer. What is missing where the input ends stays as it is.
+fn fill(input: &mut impl Read, buffer: &mut [u8]) {
+    let _ = input.read_exact(buffer);
+}
+
+// Reads a block, where there is one more.
+fn read_block<'a>(
+    input: &mut impl Read,
+    is_there: bool,
+    buffer: &'a mut [u8; ROOM],
+) -> &'a mut [u8] {
     let mut size = [0u8; 2];
-    io::read_full(STDIN_FILENO, &mut size);
-    let length = word_of(size[0], size[1]);
-    let end = at_most(length as usize, buffer);
-    io::read_full(STDIN_FILENO, &mut buffer[..end]);
-    length
+    if is_there {
+        fill(input, &mut size);
+    }
+    let block = &mut buffer[..usize::from(u16::from_be_bytes(size))];
+    fill(input, block);
+    block
 }
 
 // The numbers of a frame that has `count` of them; 0 where it has fewer.
-fn read_numbers(count: u8) -> [u16; USED] {
+fn read_numbers(input: &mut impl Read, count: u8) -> [u16; USED] {
     let mut bytes = [0u8; NUMBERS];
-    let end = at_most(2 * count as usize, &bytes);
-    io::read_full(STDIN_FILENO, &mut bytes[..end]);
+    fill(input, &mut bytes[..2 * usize::from(count)]);
     [
-        word_of(bytes[0], bytes[1]),
-        word_of(bytes[2], bytes[3]),
-        word_of(bytes[4], bytes[5]),
-        word_of(bytes[6], bytes[7]),
+        u16::from_be_bytes([bytes[0], bytes[1]]),
+        u16::from_be_bytes([bytes[2], bytes[3]]),
+        u16::from_be_bytes([bytes[4], bytes[5]]),
+        u16::from_be_bytes([bytes[6], bytes[7]]),
     ]
 }
 
 // Calls the entry. The first two numbers are the range wherever there is one, and the next two the priorities.
-fn call(entry: u8, numbers: [u16; USED], a: &[u8], b: &mut [u8], c: &mut [u8]) {
-    let low = (numbers[0] % 256) as u8;
-    let high = (numbers[1] % 256) as u8;
-    let lowest = (numbers[2] % 256) as u8;
-    let highest = (numbers[3] % 256) as u8;
+fn call(rt: &impl Print, entry: u8, numbers: [u16; USED], a: &[u8], b: &mut [u8], c: &mut [u8]) {
+    let [low, high, lowest, highest] = numbers.map(|number| (number % 256) as u8);
     match entry {
-        1 => calls::read_jobs(a),
-        2 => calls::write_jobs(a, numbers[0], b),
-        3 => calls::read_configuration(a, low, high, b),
-        4 => calls::write_configuration(a, low, high, b, numbers[2], c),
-        5 => calls::bounds(a, low, high, b, c),
-        6 => calls::mark(a, low, high, b, c),
-        7 => calls::plan(a, low, high, b, c),
-        8 => calls::same_bytes(a, b),
-        9 => calls::edit(a, numbers[0], numbers[1], numbers[2], numbers[3]),
-        10 => calls::key(a, low, high),
-        11 => calls::to_kernel(a, low, high, lowest, highest, b, c),
-        12 => calls::from_kernel(a, low, high, lowest, highest, b, c),
-        13 => calls::breakdown(a, low, high, b, c),
-        14 => calls::gate_plan(a, low, high, b, c),
-        15 => calls::gate_mark(a, low, high, b, c),
+        1 => calls::read_jobs(rt, a),
+        2 => calls::write_jobs(rt, a, numbers[0], b),
+        3 => calls::read_configuration(rt, a, low, high, b),
+        4 => calls::write_configuration(rt, a, low, high, b, numbers[2], c),
+        5 => calls::bounds(rt, a, low, high, b, c),
+        6 => calls::mark(rt, a, low, high, b, c),
+        7 => calls::plan(rt, a, low, high, b, c),
+        8 => calls::same_bytes(rt, a, b),
+        9 => calls::edit(rt, a, numbers[0], numbers[1], numbers[2], numbers[3]),
+        10 => calls::key(rt, a, low, high),
+        11 => calls::to_kernel(rt, a, low, high, lowest, highest, b, c),
+        12 => calls::from_kernel(rt, a, low, high, lowest, highest, b, c),
+        13 => calls::breakdown(rt, a, low, high, b, c),
+        14 => calls::gate_plan(rt, a, low, high, b, c),
+        15 => calls::gate_mark(rt, a, low, high, b, c),
         _ => {}
     }
 }
 
-// Reads a frame and answers it; false where the input ends.
-fn answer_next(a: &mut [u8], b: &mut [u8], c: &mut [u8]) -> bool {
+// Reads a frame and answers it. An error is the end of the input.
+fn answer_next(
+    rt: &impl Print,
+    input: &mut impl Read,
+    a: &mut [u8; ROOM],
+    b: &mut [u8; ROOM],
+    c: &mut [u8; ROOM],
+) -> io::Result<()> {
     let mut head = [0u8; HEAD];
-    if io::read_full(STDIN_FILENO, &mut head) < HEAD {
-        return false;
-    }
-    let numbers = read_numbers(head[3]);
+    input.read_exact(&mut head)?;
+    let numbers = read_numbers(input, head[3]);
     let mut blocks = [0u8; 1];
-    io::read_full(STDIN_FILENO, &mut blocks);
-    let a_end = read_block(0 < blocks[0], &mut *a);
-    let b_end = read_block(1 < blocks[0], &mut *b);
-    let c_end = read_block(2 < blocks[0], &mut *c);
-    let a_length = at_most(a_end as usize, a);
-    let b_length = at_most(b_end as usize, b);
-    let c_length = at_most(c_end as usize, c);
-    call(
-        head[2],
-        numbers,
-        &a[..a_length],
-        &mut b[..b_length],
-        &mut c[..c_length],
-    );
-    true
+    fill(input, &mut blocks);
+    let a = read_block(input, 0 < blocks[0], a);
+    let b = read_block(input, 1 < blocks[0], b);
+    let c = read_block(input, 2 < blocks[0], c);
+    call(rt, head[2], numbers, a, b, c);
+    Ok(())
 }
 
-fn main() {
-    let mut a = io::large_buffer();
-    let mut b = io::large_buffer();
-    let mut c = io::large_buffer();
-    let mut left = MOST;
-    while left > 0 {
-        if !answer_next(&mut a, &mut b, &mut c) {
+fn main(rt: HostRuntime) {
+    let mut input = rt.reader();
+    let mut a = [0u8; ROOM];
+    let mut b = [0u8; ROOM];
+    let mut c = [0u8; ROOM];
+    for _ in 0..u64::MAX {
+        if answer_next(&rt, &mut input, &mut a, &mut b, &mut c).is_err() {
             return;
         }
-        left -= 1;
     }
 }

@@ -1,19 +1,16 @@
 use mathlib.Core.Path.{sym, ap, ◌∙◌}
-use Rattle.records.specs.Refusals.{Answer, number, verdict}
-use Rattle.desk.specs.Edits.{edited}
+use Rattle.std.proofs.lemmas.Result.{err_from_is_err_and}
+use Rattle.records.specs.Refusals.{verdict}
 use Rattle.desk.proofs.Editing.{edit-done, edit-refused}
 use Rattle.desk.proofs.edit.Goals as goal
 
-pub returns-in-Accepted : goal.returns-in-Accepted
-returns-in-Accepted c =
+pub returns-in_err-judge : goal.returns-in_err-judge
+returns-in_err-judge c =
     let a = c.args in
-    let done = sym c.judge-answer.ensures ∙ ap verdict c.in-Accepted.is in
-    ap (λ (v : Answer (Unit {0})). (v, edited a.jobs.now a.place a.cost a.period a.deadline)) (c.judge-answer.ensures ∙ done)
-    ∙ sym (edit-done a.jobs.now a.place a.cost a.period a.deadline done)
+    let p = err_from_is_err_and c.from_residual.result c.from_residual.ensures.1 in
+    rw (p.1, p.2) (sym (edit-refused a.jobs.now a.place a.cost a.period a.deadline _ (sym c.judge.ensures ∙ ap verdict c.in_err-judge.was)))
 
-pub returns-in_default : goal.returns-in_default
-returns-in_default c =
+pub returns : goal.returns
+returns c =
     let a = c.args in
-    let turned = sym c.judge-answer.ensures ∙ ap verdict c.in_default.is in
-    ap (λ (v : Answer (Unit {0})). (v, a.jobs.now)) (c.judge-answer.ensures ∙ turned)
-    ∙ sym (edit-refused a.jobs.now a.place a.cost a.period a.deadline (number c.in_default.field-0) turned)
+    sym (edit-done a.jobs.now a.place a.cost a.period a.deadline (sym c.judge.ensures ∙ ap verdict c.in_ok-judge.was))
