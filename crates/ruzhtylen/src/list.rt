@@ -72,10 +72,8 @@ impl Accepted {
         let reason = reasons::hand_in::hand_in_reason(
             refusal.number(),
             hand_in.size,
-            self.call.jobs.table,
+            self.call,
             record::read(hand_in.block.as_slice()),
-            self.call.jobs.count,
-            self.call.range,
         );
         say_refusal(rt, hand_in, false, refusal, reason)
     }
@@ -91,10 +89,8 @@ impl Accepted {
         let reason = reasons::kernels::kernel_reason(
             refusal.number(),
             loaded.size,
-            self.call.jobs.table,
+            self.call,
             record::read(loaded.block.as_slice()),
-            self.call.jobs.count,
-            self.call.range,
             priorities.highest,
         );
         say_refusal(rt, loaded, false, refusal, reason)
