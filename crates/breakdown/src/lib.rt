@@ -10,7 +10,13 @@ pub mod block;
 mod bytes;
 
 // The parts of the bounds of a configuration block, full or not, in the output.
-pub fn breakdown(jobs: &[u8], low: u8, high: u8, configuration: &[u8], output: &mut [u8]) -> Result<(), Refusal>
+pub fn breakdown(
+    jobs: &[u8],
+    low: u8,
+    high: u8,
+    configuration: &[u8],
+    output: &mut [u8],
+) -> Result<(), Refusal>
     ensures { BreakdownPromise jobs.now low high configuration.now output.old (verdict result, output.new) }
 {
     let call = records::call::read_call(jobs, low, high)?;

@@ -3,19 +3,17 @@ use Prim.Native.Nat.{ℕ, ◌+◌, ◌*◌, ◌/◌, ◌%◌, ◌<◌}
 use mathlib.Core.Path.{◌≡◌, refl, sym, ap, ap₂, subst, ◌∙◌}
 use mathlib.Core.List.{List}
 use native.Mathlib.Omega.{arith}
+use Rattle.std.specs.Prelude.{Bool, Result, Ok, Err}
 use Rattle.records.specs.Refusals.{Answer, refused, given, verdict}
-use Rattle.records.specs.declared.refusal.Verdict.{Verdict}
-use Rattle.records.specs.declared.refusal.Verdict.TheVariants.{Accepted, Refused as NotAccepted}
+use Rattle.records.specs.declared.refusal.Refusal.{Refusal}
 use Rattle.records.proofs.Outcomes.{number-byte}
 use Rattle.kernel.specs.Promises.{ToKernelPromise, FromKernelPromise}
 use Rattle.limits.specs.Boxes.{gate_limits}
 use Rattle.limits.specs.Limited.{Limited}
 use Rattle.limits.proofs.Limiting.{limited-as}
-use Rattle.marker.specs.declared.MarkAnswer.{MarkAnswer}
 use Rattle.marker.specs.Marks.{mark_answer}
 use Rattle.breakdown.specs.Promises.{BreakdownPromise}
-use Rattle.planner.specs.declared.PlanAnswer.{PlanAnswer}
-use Rattle.planner.specs.declared.PlanAnswer.TheVariants.{Planned, Refused}
+use Rattle.planner.specs.declared.Planned.{Planned}
 use Rattle.planner.specs.Plans.{plan_answer, answered, HeldIn, Promise}
 use Rattle.planner.proofs.Holding.{told-byte}
 use Rattle.gate.specs.Promises.{PlanWithinPromise, MarkWithinPromise}
@@ -33,22 +31,24 @@ limited-words jobs low high {A} {B} value {w} {a} {b} {old} {mats} e l =
 
 module _ (jobs : List ℕ) (low high : ℕ) (configuration bounds : List ℕ) (after : List ℕ × List ℕ) (w : ℕ) where
   -- The bytes of the word are the two values.
-  held : (a : PlanAnswer) → ((told : ℕ × ℕ) → plan_answer a ≡ given told → Promise jobs low high configuration bounds (answered a after.0 after.1)) → w ≡ word plan_value (plan_answer a)
+  held : (a : Result Planned Refusal) → ((told : ℕ × ℕ) → plan_answer a ≡ given told → Promise jobs low high configuration bounds (answered a after.0 after.1)) → w ≡ word plan_value (plan_answer a)
       → w % 256 ≡ 0 → HeldIn jobs low high (w / 256 % 256, w / 65536) after
-  held (Planned placed considered) promises e z =
+  held (Ok plan) promises e z =
+      let placed = plan.placed in
+      let considered = plan.considered in
       let promised = promises (placed, considered) refl in
       let small : placed < 256 = told-byte jobs low high configuration bounds _ promised.is (placed, considered) refl in
       let upper : w / 256 ≡ placed + 256 * considered = omega arith in
       let first : w / 256 % 256 ≡ placed = ap (λ (x : ℕ). x % 256) upper ∙ omega arith in
       let second : w / 65536 ≡ considered = omega arith in
       subst (λ (told : ℕ × ℕ). HeldIn jobs low high told after) (sym (ap₂ (λ (x y : ℕ). (x, y)) first second)) (promised.guarantee (placed, considered) refl)
-  held (Refused refusal) promises e z = absurd (omega (arith, number-byte refusal))
+  held (Err refusal) promises e z = absurd (omega (arith, number-byte refusal))
 
-  pub word-promise : (a : PlanAnswer) → Promise jobs low high configuration bounds (answered a after.0 after.1) → w ≡ word plan_value (plan_answer a)
+  pub word-promise : (a : Result Planned Refusal) → Promise jobs low high configuration bounds (answered a after.0 after.1) → w ≡ word plan_value (plan_answer a)
       → WordPromise jobs low high configuration bounds w after
   word-promise a promised e = record { is = worded plan_value e promised.is; guarantee = held a (λ told f. promised) e }
 
-  pub gate-plan-word : (a : PlanAnswer) → PlanWithinPromise gate_limits jobs low high configuration bounds (answered a after.0 after.1) → w ≡ word plan_value (plan_answer a)
+  pub gate-plan-word : (a : Result Planned Refusal) → PlanWithinPromise gate_limits jobs low high configuration bounds (answered a after.0 after.1) → w ≡ word plan_value (plan_answer a)
       → GatePlanWord jobs low high configuration bounds w after
   gate-plan-word a promised e = record {
     is = worded plan_value e promised.is;
@@ -56,17 +56,17 @@ module _ (jobs : List ℕ) (low high : ℕ) (configuration bounds : List ℕ) (a
     guarantee = held a (as-mats gate_limits jobs low high configuration bounds _ promised.is) e;
   }
 
-pub gate-mark-word : (jobs : List ℕ) (low high : ℕ) (configuration output after : List ℕ) (a : MarkAnswer) (w : ℕ) → w ≡ word truth_value (mark_answer a)
+pub gate-mark-word : (jobs : List ℕ) (low high : ℕ) (configuration output after : List ℕ) (a : Result Bool Refusal) (w : ℕ) → w ≡ word truth_value (mark_answer a)
     → MarkWithinPromise gate_limits jobs low high configuration output (mark_answer a, after) → GateMarkWord jobs low high configuration output w after
 gate-mark-word jobs low high configuration output after a w e promised =
     record { is = worded truth_value e promised.is; limited = limited-words jobs low high truth_value e promised.limited }
 
 -- A word of 0 is no refusal.
-done : (v : Verdict) (w : ℕ) → w ≡ word no_value (verdict v) → w ≡ 0 → verdict v ≡ given tt
-done Accepted w e z = refl
-done (NotAccepted refusal) w e z = absurd (omega (arith, number-byte refusal))
+done : (v : Result (Unit {0}) Refusal) (w : ℕ) → w ≡ word no_value (verdict v) → w ≡ 0 → verdict v ≡ given tt
+done (Ok u) w e z = refl
+done (Err refusal) w e z = absurd (omega (arith, number-byte refusal))
 
-pub breakdown-word : (jobs : List ℕ) (low high : ℕ) (configuration output after : List ℕ) (v : Verdict) (w : ℕ) → w ≡ word no_value (verdict v)
+pub breakdown-word : (jobs : List ℕ) (low high : ℕ) (configuration output after : List ℕ) (v : Result (Unit {0}) Refusal) (w : ℕ) → w ≡ word no_value (verdict v)
     → BreakdownPromise jobs low high configuration output (verdict v, after) → BreakdownWord jobs low high configuration output w after
 breakdown-word jobs low high configuration output after v w e promised = record {
   is = worded no_value e promised.is;
@@ -74,7 +74,7 @@ breakdown-word jobs low high configuration output after v w e promised = record 
   bounds = λ z room h. ap (in_words no_value) (promised.bounds (done v w e z) room h);
 }
 
-module _ (jobs : List ℕ) (low high lowest highest : ℕ) (block output after : List ℕ) (v : Verdict) (w : ℕ) (e : w ≡ word no_value (verdict v)) where
+module _ (jobs : List ℕ) (low high lowest highest : ℕ) (block output after : List ℕ) (v : Result (Unit {0}) Refusal) (w : ℕ) (e : w ≡ word no_value (verdict v)) where
   pub to-kernel-word : ToKernelPromise jobs low high (priority lowest) (priority highest) block output (verdict v, after) → ToKernelWord jobs low high lowest highest block output w after
   to-kernel-word promised = record { is = worded no_value e promised.is; back = λ z. promised.back (done v w e z) }
 

@@ -11,37 +11,34 @@ ghost use Rattle.capi.specs.Promises.{WordPromise, GatePlanWord, GateMarkWord, B
 ghost use Rattle.capi.specs.Words.{word, in_words, count_value, no_value, truth_value, plan_value};
 
 use kernel::priority::KernelPriority;
-use marker::MarkAnswer;
-use planner::PlanAnswer;
-use records::refusal::{Counted, Verdict};
+use planner::Planned;
+use records::refusal::Refusal;
 
-fn verdict_word(answer: Verdict) -> u32
+fn verdict_word(answer: Result<(), Refusal>) -> u32
     ensures { result ≡ word no_value (verdict answer) }
 {
     match answer {
-        Verdict::Accepted => 0,
-        Verdict::Refused(refusal) => refusal.number() as u32,
+        Ok(()) => 0,
+        Err(refusal) => refusal.number() as u32,
     }
 }
 
-fn mark_word(answer: MarkAnswer) -> u32
+fn mark_word(answer: Result<bool, Refusal>) -> u32
     ensures { result ≡ word truth_value (mark_answer answer) }
 {
     match answer {
-        MarkAnswer::Passes => 256,
-        MarkAnswer::Fails => 0,
-        MarkAnswer::Refused(refusal) => refusal.number() as u32,
+        Ok(true) => 256,
+        Ok(false) => 0,
+        Err(refusal) => refusal.number() as u32,
     }
 }
 
-fn plan_word(answer: PlanAnswer) -> u32
+fn plan_word(answer: Result<Planned, Refusal>) -> u32
     ensures { result ≡ word plan_value (plan_answer answer) }
 {
     match answer {
-        PlanAnswer::Planned(placed, considered) => {
-            256 * (placed as u32 + 256 * considered as u32)
-        }
-        PlanAnswer::Refused(refusal) => refusal.number() as u32,
+        Ok(plan) => 256 * (plan.placed as u32 + 256 * plan.considered as u32),
+        Err(refusal) => refusal.number() as u32,
     }
 }
 
@@ -50,11 +47,9 @@ fn plan_word(answer: PlanAnswer) -> u32
 pub extern "C" fn ruzhtylen_read_jobs(jobs: &[u8]) -> u32
     ensures { result ≡ word count_value (read_jobs jobs.now).0 }
 {
-    let read = records::block::read_jobs(jobs);
-    let answer = read.answer;
-    match answer {
-        Counted::Count(n) => 256 * n as u32,
-        Counted::Refused(refusal) => refusal.number() as u32,
+    match records::block::read_jobs(jobs) {
+        Ok(read) => 256 * read.count as u32,
+        Err(refusal) => refusal.number() as u32,
     }
 }
 

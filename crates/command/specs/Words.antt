@@ -1,17 +1,14 @@
 -- What the words of a command mean. Assumes nothing.
-use Rattle.std.specs.Prelude.{ℕ, ◌+◌, ◌%◌, Bool, cond, ◌&&◌, ◌||◌, List, [], ◌∷◌, eqb, leb, ltb, length, get_or, take, drop}
+use Rattle.std.specs.Prelude.{ℕ, ◌+◌, ◌%◌, Bool, cond, ◌&&◌, ◌||◌, List, [], ◌∷◌, eqb, leb, ltb, length, get_or, take, drop, Option, None, Some, Result, Ok, Err}
 use Rattle.same_bytes.specs.Same.{same_bytes}
 use Rattle.lists.specs.declared.words.Mark.TheVariants.{Hyphen}
-use Rattle.lists.specs.declared.words.WordAnswer.{WordAnswer}
-use Rattle.lists.specs.declared.words.WordAnswer.TheVariants.{Number, Wrong}
+use Rattle.lists.specs.declared.fault.Fault.{Fault}
 use Rattle.lists.specs.Words.{is_mark, before, number_of}
 use Rattle.command.specs.declared.Word.{Word}
 use Rattle.command.specs.declared.Word.TheVariants.{Key, Mark, Bounds, Explain, Loader, Block, Text, Install, Help, Unknown}
 use Rattle.command.specs.declared.Argument.{Argument}
 use Rattle.command.specs.declared.Argument.TheVariants.{Quanta, Priorities, Blocks, Configuration, Back, Bytes, End, UnknownOption, Name}
-use Rattle.command.specs.declared.span.Quanta.{Quanta as Chosen}
 use Rattle.command.specs.declared.span.Span.{Span}
-use Rattle.command.specs.declared.span.Span.TheVariants.{Between, Wrong as SpanWrong}
 
 -- `block`, `text`, `install` and `help`, which is `--help` and `-h` too.
 unfoldable pub other_word : List ℕ → Word
@@ -51,19 +48,21 @@ argument_of argument =
     (cond (same_bytes argument (45 ∷ 45 ∷ 98 ∷ 121 ∷ 116 ∷ 101 ∷ 115 ∷ [])) Bytes (other_argument argument))))))
 
 -- A range of quanta or of priorities as a word: two numbers of a byte each, with a hyphen between.
-abbrev pub pair_of : WordAnswer → WordAnswer → Span
-pair_of (Number low) (Number high) = Between (low % 256) (high % 256)
-pair_of (Number low) (Wrong fault) = SpanWrong
-pair_of (Wrong fault) high = SpanWrong
+abbrev pub pair_of : Result ℕ Fault → Result ℕ Fault → Option Span
+pair_of (Ok low) (Ok high) = Some (record { low = low % 256; high = high % 256 })
+pair_of (Ok low) (Err fault) = None
+pair_of (Err fault) high = None
 
-unfoldable pub span_of : List ℕ → Span
+unfoldable pub span_of : List ℕ → Option Span
 span_of word =
     let hyphen = length (before (is_mark Hyphen) word) in
-    cond (eqb hyphen 0 || leb (length word) (hyphen + 1)) SpanWrong (pair_of (number_of 1 255 255 (take hyphen word)) (number_of 2 255 255 (drop (hyphen + 1) word)))
+    cond (eqb hyphen 0 || leb (length word) (hyphen + 1)) None (pair_of (number_of 1 255 255 (take hyphen word)) (number_of 2 255 255 (drop (hyphen + 1) word)))
 
 -- The range of a call: the option's, else the list's, else 1 to 4.
-unfoldable pub chosen : Bool → Chosen → Bool → Chosen → Chosen
-chosen optioned option listed list = cond optioned option (cond listed list (record { low = 1; high = 4 }))
+abbrev pub chosen : Option Span → Option Span → Span
+chosen (Some option) list = option
+chosen None (Some list) = list
+chosen None None = record { low = 1; high = 4 }
 
 -- A byte of a name as it is shown: a control byte as a question mark.
 abbrev pub shown_byte : ℕ → ℕ

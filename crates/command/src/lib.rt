@@ -9,7 +9,7 @@ use same_bytes::same_bytes;
 pub mod span;
 
 // What is asked.
-#[derive(Clone, Copy)]
+#[derive(Clone, Copy, Debug, PartialEq, Eq)]
 pub enum Word {
     Key,
     Mark,
@@ -24,7 +24,7 @@ pub enum Word {
 }
 
 // What an argument after the word is: an option, the end of the options, or a name.
-#[derive(Clone, Copy)]
+#[derive(Clone, Copy, Debug, PartialEq, Eq)]
 pub enum Argument {
     Quanta,
     Priorities,
@@ -38,6 +38,7 @@ pub enum Argument {
 }
 
 // The words that ask for no answer about a list.
+#[tactic(auto, unfolding(crate::specs::Words::other_word))]
 fn other_word(argument: &[u8]) -> Word
     ensures { result ≡ other_word argument.now }
 {
@@ -63,6 +64,7 @@ fn other_word(argument: &[u8]) -> Word
 }
 
 // The word for what is asked. No entry.
+#[tactic(auto, unfolding(crate::specs::Words::word_of))]
 pub fn word_of(argument: &[u8]) -> Word
     ensures { result ≡ word_of argument.now }
 {
@@ -85,19 +87,15 @@ pub fn word_of(argument: &[u8]) -> Word
 }
 
 // Whether an argument begins with two hyphens, as options do.
+#[tactic(auto, unfolding(crate::specs::Words::is_option))]
 fn is_option(argument: &[u8]) -> bool
     ensures { result ≡ is_option argument.now }
 {
-    if argument.len() < 2 {
-        return false;
-    }
-    if argument[0] != b'-' {
-        return false;
-    }
-    argument[1] == b'-'
+    argument.starts_with(b"--")
 }
 
 // What an argument is that is no option that there is.
+#[tactic(auto, unfolding(crate::specs::Words::other_argument))]
 fn other_argument(argument: &[u8]) -> Argument
     ensures { result ≡ other_argument argument.now }
 {
@@ -111,6 +109,7 @@ fn other_argument(argument: &[u8]) -> Argument
 }
 
 // What an argument after the word is. No entry.
+#[tactic(auto, unfolding(crate::specs::Words::argument_of))]
 pub fn argument_of(argument: &[u8]) -> Argument
     ensures { result ≡ argument_of argument.now }
 {
@@ -139,22 +138,14 @@ pub fn argument_of(argument: &[u8]) -> Argument
 fn shown(byte: u8) -> u8
     ensures { result ≡ shown_byte byte }
 {
-    if byte < 32 {
-        return b'?';
-    }
-    if byte == 127 {
-        return b'?';
-    }
-    byte
+    if byte.is_ascii_control() { b'?' } else { byte }
 }
 
 // Puts a name in its place as it is shown. No entry.
 pub fn show(name: &mut [u8])
     ensures { name.new ≡ map shown_byte name.old }
 {
-    let mut i = 0;
-    while i < name.len() {
-        name[i] = shown(name[i]);
-        i += 1;
+    for byte in name.iter_mut() {
+        *byte = shown(*byte);
     }
 }

@@ -7,7 +7,8 @@ ghost use Rattle.finishes.specs.Finishes.{work_by};
 use crate::finish::LONGEST_TIME;
 use records::job::Job;
 
-// a divided by b, rounded up; 0 where b is 0.
+// a divided by b, rounded up; 0 where b is 0. `runs` has its own for cycles: with one public function, which has to answer for any two
+// numbers, bounds and marks take up to 1.05 times as long (docs/PERFORMANCE.md).
 fn ceil_div(a: u32, b: u32) -> u32
     requires { (a < 2 ^ 31) × (b < 2 ^ 16) }
     ensures { (result ≡ ceil_div a b) × (result ≤ a) }

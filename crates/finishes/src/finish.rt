@@ -48,6 +48,7 @@ fn climb(
     ensures { (result ≡ climb (λ t. own + interference jobs (has long) t + interference jobs (has short) t) (λ t. ((own + interference jobs (has long) t) * whole + carry) / spare) limit (suc limit) start) × (result ≤ limit) × ((result ≡ 0 → ⊥) → start ≤ result) }
 {
     let end = limit as u64 + 1;
+    // Most times are passed over, so no range has those that are tried.
     let mut t = start;
     while t < end {
         let now = t as u32;

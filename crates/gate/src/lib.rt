@@ -7,9 +7,8 @@ ghost use Rattle.planner.specs.Plans.{answered};
 ghost use Rattle.gate.specs.Promises.{PlanWithinPromise, MarkWithinPromise};
 
 use limits::Limits;
-use marker::MarkAnswer;
-use planner::PlanAnswer;
-use records::refusal::Counted;
+use planner::Planned;
+use records::refusal::Refusal;
 
 // Plans a job block for a range of quanta and a box with limits. No entry; it judges the limits (15) after the range, and else what the
 // mats' entry judges.
@@ -20,17 +19,11 @@ pub fn plan_within(
     high: u8,
     configuration: &mut [u8],
     bounds: &mut [u8],
-) -> PlanAnswer
+) -> Result<Planned, Refusal>
     ensures { PlanWithinPromise limits jobs.now low high configuration.old bounds.old (answered result configuration.new bounds.new) }
 {
-    let call = limits::read_call(limits, jobs, low, high);
-    let answer = call.answer;
-    let Counted::Count(n) = answer else {
-        return PlanAnswer::Refused(records::refusal::refusal_of(answer));
-    };
-    let table = call.table;
-    let range = call.range;
-    planner::table::put_plan(table, n, range, &mut *configuration, &mut *bounds)
+    let call = limits::read_call(limits, jobs, low, high)?;
+    planner::table::put_plan(call, &mut *configuration, &mut *bounds)
 }
 
 // Marks a configuration block for a box with limits. No entry; it judges the limits (15) after the range, and else what the mats' entry
@@ -42,17 +35,11 @@ pub fn mark_within(
     high: u8,
     configuration: &[u8],
     output: &mut [u8],
-) -> MarkAnswer
+) -> Result<bool, Refusal>
     ensures { MarkWithinPromise limits jobs.now low high configuration.now output.old (mark_answer result, output.new) }
 {
-    let call = limits::read_call(limits, jobs, low, high);
-    let answer = call.answer;
-    let Counted::Count(n) = answer else {
-        return MarkAnswer::Refused(records::refusal::refusal_of(answer));
-    };
-    let table = call.table;
-    let range = call.range;
-    marker::mark_hand_in(table, n, range, configuration, &mut *output)
+    let call = limits::read_call(limits, jobs, low, high)?;
+    marker::mark_hand_in(call, configuration, &mut *output)
 }
 
 // Plans a job block for a range of quanta at the start gate: the configuration and the bounds, in the two outputs.
@@ -62,7 +49,7 @@ pub fn gate_plan(
     high: u8,
     configuration: &mut [u8],
     bounds: &mut [u8],
-) -> PlanAnswer
+) -> Result<Planned, Refusal>
     ensures { PlanWithinPromise gate_limits jobs.now low high configuration.old bounds.old (answered result configuration.new bounds.new) }
 {
     plan_within(
@@ -82,7 +69,7 @@ pub fn gate_mark(
     high: u8,
     configuration: &[u8],
     output: &mut [u8],
-) -> MarkAnswer
+) -> Result<bool, Refusal>
     ensures { MarkWithinPromise gate_limits jobs.now low high configuration.now output.old (mark_answer result, output.new) }
 {
     mark_within(Limits::GATE, jobs, low, high, configuration, &mut *output)

@@ -13,12 +13,11 @@ use Rattle.records.specs.Records.{table}
 use Rattle.records.proofs.FixedWidth.{table_at}
 use Rattle.lists.specs.declared.fault.Fault.{Fault}
 use Rattle.lists.specs.declared.words.Mark.TheVariants.{Blank, Word}
-use Rattle.lists.specs.declared.words.WordAnswer.{WordAnswer}
-use Rattle.lists.specs.declared.words.WordAnswer.TheVariants.{Number, Wrong}
+use Rattle.std.specs.Prelude.{Result, Ok, Err}
 use Rattle.lists.specs.declared.fields.Form.{Form}
 use Rattle.lists.specs.declared.fields.Form.TheVariants.{Job, Setting, Kernel, Quanta}
 use Rattle.lists.specs.Words.{is_mark, before, words}
-use Rattle.lists.specs.Rows.{limits_of, needed_of, count_fault, word_of, Numbers, numbers, wrong, fields_from, row_of}
+use Rattle.lists.specs.Rows.{limits_of, needed_of, count_fault, word_of, Numbers, fields_from, row_of}
 use Rattle.lists.proofs.Parsing.{no_word, next_word}
 
 pub few-fields : (form : Form) → length (limits_of form) ≤ 5
@@ -45,25 +44,25 @@ module _ (form : Form) (content : List ℕ) (at i : ℕ) (seen : List ℕ) (insi
       ended : here ≡ fields_from form seen (drop i limits) []
       ended = ap (fields_from form seen (drop i limits)) (no_word content at start found end)
 
-      pub too_few : i < length limits → i < needed_of form → here ≡ wrong (count_fault form)
-      too_few l h = ended ∙ ap (λ (x : List ℕ). fields_from form seen x []) (drop-cons limits i 0 l) ∙ ap (λ (b : Bool). cond b (numbers seen) (wrong (count_fault form))) (lt-leb (needed_of form) (length seen) (omega arith))
+      pub too_few : i < length limits → i < needed_of form → here ≡ Err (count_fault form)
+      too_few l h = ended ∙ ap (λ (x : List ℕ). fields_from form seen x []) (drop-cons limits i 0 l) ∙ ap (λ (b : Bool). cond b (Ok seen) (Err (count_fault form))) (lt-leb (needed_of form) (length seen) (omega arith))
 
-      pub enough : i < length limits → needed_of form ≤ i → here ≡ numbers seen
-      enough l h = ended ∙ ap (λ (x : List ℕ). fields_from form seen x []) (drop-cons limits i 0 l) ∙ ap (λ (b : Bool). cond b (numbers seen) (wrong (count_fault form))) (le-leb (needed_of form) (length seen) (omega arith))
+      pub enough : i < length limits → needed_of form ≤ i → here ≡ Ok seen
+      enough l h = ended ∙ ap (λ (x : List ℕ). fields_from form seen x []) (drop-cons limits i 0 l) ∙ ap (λ (b : Bool). cond b (Ok seen) (Err (count_fault form))) (le-leb (needed_of form) (length seen) (omega arith))
 
-      pub all_read : length limits ≤ i → here ≡ numbers seen
+      pub all_read : length limits ≤ i → here ≡ Ok seen
       all_read h = ended ∙ ap (λ (x : List ℕ). fields_from form seen x []) (drop_of_length-le limits h)
 
     -- A word is left.
     module _ (more : start < length content) where
-      pub too_many : length limits ≤ i → here ≡ wrong (count_fault form)
+      pub too_many : length limits ≤ i → here ≡ Err (count_fault form)
       too_many h =
           ap₂ (fields_from form seen) (drop_of_length-le limits h) (next_word content at start found inside more (start + length (before (is_mark Blank) (drop start content))) refl)
 
-      module _ (l : i < length limits) (end : ℕ) (e : end ≡ start + length (before (is_mark Blank) (drop start content))) (answer : WordAnswer)
+      module _ (l : i < length limits) (end : ℕ) (e : end ≡ start + length (before (is_mark Blank) (drop start content))) (answer : Result ℕ Fault)
           (read : answer ≡ word_of form i (get_or limits i 0) (take (end - start) (drop start content))) where
-        abbrev on : WordAnswer → Numbers
-        on w = elim w [ Number n ↦ fields_from form (seen ++ (n ∷ [])) (drop (i + 1) limits) (words (drop end content)) | Wrong fault ↦ wrong fault ]
+        abbrev on : Result ℕ Fault → Numbers
+        on w = elim w [ Ok n ↦ fields_from form (seen ++ (n ∷ [])) (drop (i + 1) limits) (words (drop end content)) | Err fault ↦ Err fault ]
 
         step : here ≡ on answer
         step =
@@ -71,8 +70,8 @@ module _ (form : Form) (content : List ℕ) (at i : ℕ) (seen : List ℕ) (insi
             ∙ ap (λ (k : ℕ). on (word_of form k (get_or limits i 0) (take (end - start) (drop start content)))) long
             ∙ ap on (sym read)
 
-        pub field-read : (n : ℕ) → answer ≡ Number n → here ≡ fields_from form (seen ++ (n ∷ [])) (drop (i + 1) limits) (words (drop end content))
+        pub field-read : (n : ℕ) → answer ≡ Ok n → here ≡ fields_from form (seen ++ (n ∷ [])) (drop (i + 1) limits) (words (drop end content))
         field-read n f = step ∙ ap on f
 
-        pub field-wrong : (fault : Fault) → answer ≡ Wrong fault → here ≡ wrong fault
+        pub field-wrong : (fault : Fault) → answer ≡ Err fault → here ≡ Err fault
         field-wrong fault f = step ∙ ap on f

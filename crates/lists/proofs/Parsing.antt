@@ -13,20 +13,15 @@ use borrow.Author.Tests.{not-true, leb-true, lt-leb}
 use Rattle.lists.specs.Decimals.{digit}
 use Rattle.lists.specs.declared.fault.Fault.TheVariants.{NotANumber, TooLarge}
 use Rattle.lists.specs.declared.words.Mark.TheVariants.{Blank, Word}
-use Rattle.lists.specs.declared.words.WordAnswer.{WordAnswer}
-use Rattle.lists.specs.declared.words.WordAnswer.TheVariants.{Number, Wrong}
+use Rattle.std.specs.Prelude.{Result, Ok, Err, Some, None, position, unwrap_or, nat_lt}
+use Rattle.std.specs.List.{position_or_len}
+use Rattle.std.proofs.lemmas.Grind.{common_steps}
+use Rattle.lists.specs.declared.fault.Fault.{Fault}
 use Rattle.lists.specs.Words.{is_blank, is_mark, is_digit, parts_from, parts, before, non_empty, words, all_digits, value_from}
 
 -- ---- up to a byte
 
 module _ (stop : ℕ → Bool) where
-  pub before-hit : (text : List ℕ) (i : ℕ) → i < length text → stop (get_or text i 0) ≡ true → before stop (drop i text) ≡ []
-  before-hit text i h e = rw (drop-cons text i 0 h, e)
-
-  pub before-miss : (text : List ℕ) (i : ℕ) → i < length text → stop (get_or text i 0) ≡ false
-      → before stop (drop i text) ≡ get_or text i 0 ∷ before stop (drop (i + 1) text)
-  before-miss text i h e = rw (drop-cons text i 0 h, e, add-one i)
-
   -- It is the text's beginning.
   pub before-take : (text : List ℕ) → take (length (before stop text)) text ≡ before stop text
   before-take [] = refl
@@ -43,6 +38,22 @@ module _ (stop : ℕ → Bool) where
       by : length (before stop text) ≤ length text → (b : Bool) → length (cond b [] (byte ∷ before stop text)) ≤ suc (length text)
       by h true = omega arith
       by h false = omega arith
+
+  -- Its length is the first place at which the test holds, or the length of the text.
+  pub before-length : (text : List ℕ) → length (before stop text) ≡ position_or_len stop text
+  before-length [] = refl
+  before-length (byte ∷ text) = by (before-length text) (stop byte)
+    where
+      by : length (before stop text) ≡ position_or_len stop text → (b : Bool) → length (cond b [] (byte ∷ before stop text)) ≡ cond (not b) (1 + position_or_len stop text) 0
+      by h true = refl
+      by h false = omega arith
+
+  pub before-position : (text : List ℕ) → unwrap_or (position stop text) (length text) ≡ length (before stop text)
+  before-position text = by (nat_lt (position_or_len stop text) (length text)) refl
+    where
+      by : (b : Bool) → nat_lt (position_or_len stop text) (length text) ≡ b → unwrap_or (cond b (Some (position_or_len stop text)) None) (length text) ≡ length (before stop text)
+      by true e = sym (before-length text)
+      by false e = let past : length text ≤ position_or_len stop text = grind (arith, common_steps) in omega (arith, before-length text, before-short text)
 
   pub before-within : (text : List ℕ) (from : ℕ) → from ≤ length text → from + length (before stop (drop from text)) ≤ length text
   before-within text from h = omega (arith, before-short (drop from text), length-drop from text)
@@ -67,8 +78,8 @@ digit-range byte = by (leb (digit 0) byte) refl
     by false e f = absurd (false≢true f)
 
 -- A word after digits that stand for n, as a number of at most `limit`.
-abbrev pub number_from : ℕ → ℕ → ℕ → ℕ → List ℕ → WordAnswer
-number_from place told limit n word = cond (all_digits word) (cond (leb (value_from n word) limit) (Number (value_from n word)) (Wrong (TooLarge place told))) (Wrong (NotANumber place))
+abbrev pub number_from : ℕ → ℕ → ℕ → ℕ → List ℕ → Result ℕ Fault
+number_from place told limit n word = cond (all_digits word) (cond (leb (value_from n word) limit) (Ok (value_from n word)) (Err (TooLarge place told))) (Err (NotANumber place))
 
 -- Past the limit it does not matter by how much.
 value-capped : (limit a b : ℕ) → min a (limit + 1) ≡ min b (limit + 1) → (word : List ℕ) → min (value_from a word) (limit + 1) ≡ min (value_from b word) (limit + 1)
@@ -79,11 +90,11 @@ value-capped limit a b e (byte ∷ word) = value-capped limit (a * 10 + (byte - 
     step d = omega arith
 
 pub number-capped : (place told limit a b : ℕ) → min a (limit + 1) ≡ min b (limit + 1) → (word : List ℕ) → number_from place told limit a word ≡ number_from place told limit b word
-number-capped place told limit a b e word = ap (λ (w : WordAnswer). cond (all_digits word) w (Wrong (NotANumber place))) (by (value_from a word) (value_from b word) (value-capped limit a b e word))
+number-capped place told limit a b e word = ap (λ (w : Result ℕ Fault). cond (all_digits word) w (Err (NotANumber place))) (by (value_from a word) (value_from b word) (value-capped limit a b e word))
   where
-    by : (x y : ℕ) → min x (limit + 1) ≡ min y (limit + 1) → cond (leb x limit) (Number x) (Wrong (TooLarge place told)) ≡ cond (leb y limit) (Number y) (Wrong (TooLarge place told))
+    by : (x y : ℕ) → min x (limit + 1) ≡ min y (limit + 1) → cond (leb x limit) (Ok x) (Err (TooLarge place told)) ≡ cond (leb y limit) (Ok y) (Err (TooLarge place told))
     by x y same = elim (dec_le x limit) [
-      | yes l ↦ let f : x ≡ y = omega arith in ap (λ (z : ℕ). cond (leb z limit) (Number z) (Wrong (TooLarge place told))) f
+      | yes l ↦ let f : x ≡ y = omega arith in ap (λ (z : ℕ). cond (leb z limit) (Ok z) (Err (TooLarge place told))) f
       | no l ↦ let m : limit < x = omega arith in let n : limit < y = omega arith in rw (lt-leb x limit m, lt-leb y limit n)
     ]
 
@@ -92,10 +103,10 @@ pub number-next : (place told limit n : ℕ) (word : List ℕ) (i : ℕ) → i <
     → number_from place told limit n (drop i word) ≡ number_from place told limit (n * 10 + (get_or word i 0 - digit 0)) (drop (i + 1) word)
 number-next place told limit n word i h e = rw (add-one i, drop-cons word i 0 h, e)
 
-pub number-stop : (place told limit n : ℕ) (word : List ℕ) (i : ℕ) → i < length word → is_digit (get_or word i 0) ≡ false → number_from place told limit n (drop i word) ≡ Wrong (NotANumber place)
+pub number-stop : (place told limit n : ℕ) (word : List ℕ) (i : ℕ) → i < length word → is_digit (get_or word i 0) ≡ false → number_from place told limit n (drop i word) ≡ Err (NotANumber place)
 number-stop place told limit n word i h e = rw (drop-cons word i 0 h, e)
 
-pub number-end : (place told limit n : ℕ) (word : List ℕ) (i : ℕ) → length word ≤ i → number_from place told limit n (drop i word) ≡ cond (leb n limit) (Number n) (Wrong (TooLarge place told))
+pub number-end : (place told limit n : ℕ) (word : List ℕ) (i : ℕ) → length word ≤ i → number_from place told limit n (drop i word) ≡ cond (leb n limit) (Ok n) (Err (TooLarge place told))
 number-end place told limit n word i h = rw (drop_of_length-le word h)
 
 -- ---- words

@@ -20,16 +20,16 @@ use Rattle.same_bytes.specs.Same.{same_bytes}
 use Rattle.same_bytes.proofs.Equality.{same-exactly}
 use Rattle.lists.specs.Decimals.{space, line_feed, digit, decimal}
 use Rattle.lists.specs.declared.words.Mark.TheVariants.{LineEnd, Comment, Return}
-use Rattle.lists.specs.declared.words.WordAnswer.{WordAnswer}
-use Rattle.lists.specs.declared.words.WordAnswer.TheVariants.{Number, Wrong}
+use Rattle.std.specs.Prelude.{Result, Ok, Err}
+use Rattle.lists.specs.declared.fault.Fault.{Fault}
 use Rattle.lists.specs.declared.fields.Form.{Form}
 use Rattle.lists.specs.declared.fields.Form.TheVariants.{Job as JobForm, Setting as SettingForm, Kernel as KernelForm, Quanta as QuantaForm}
 use Rattle.lists.specs.declared.fields.Row.{Row}
-use Rattle.lists.specs.declared.rows.LineAnswer.{LineAnswer}
+use Rattle.lists.specs.declared.rows.Line.{Line}
 use Rattle.lists.specs.declared.fault.Fault.TheVariants.{LoneReturn}
-use Rattle.lists.specs.declared.rows.LineAnswer.TheVariants.{Skipped, Found, RangeOf, Wrong as LineWrong}
+use Rattle.lists.specs.declared.rows.Line.TheVariants.{Skipped, Found, RangeOf}
 use Rattle.lists.specs.Words.{tab, carriage_return, number_sign, is_blank, is_mark, is_digit, parts_from, parts, before, non_empty, lines, words, all_digits, value_from, number_of}
-use Rattle.lists.specs.Rows.{Numbers, wrong, fields_from, read_fields, row_answer, row_line, range_line, none_name, fifo_name, round_robin_name, policy_or, policy_named, word_of, quanta_word, placed_word, words_line, plain_line, read_line, Rows, Reading, given, with_line, read_lines, mark_size, no_rows, read_text}
+use Rattle.lists.specs.Rows.{Numbers, fields_from, read_fields, row_answer, row_line, range_line, none_name, fifo_name, round_robin_name, policy_or, policy_named, word_of, quanta_word, placed_word, words_line, plain_line, read_line, Rows, Reading, given, with_line, read_lines, mark_size, no_rows, read_text}
 use Rattle.lists.specs.Lists.{job_from, setting_from, kernel_from, line_text, delay_words, job_text, policy_word, setting_text, kernel_text, list_text, configuration_text, kernels_text, JobFits, SettingFits, KernelFits, RangeFits, AllFit}
 use Rattle.lists.proofs.Decimal.{decimal-one, decimal-more}
 use Rattle.lists.proofs.Parsing.{digit-range}
@@ -82,7 +82,7 @@ decimal-spells : (n : ℕ) → Spells n (decimal n)
 decimal-spells n = spelled_by (suc n) n (omega arith)
 
 -- What the writer of decimal numbers writes is read back.
-number-back : (told place limit n : ℕ) → n ≤ limit → number_of place told limit (decimal n) ≡ Number n
+number-back : (told place limit n : ℕ) → n ≤ limit → number_of place told limit (decimal n) ≡ Ok n
 unfolding number_of
 number-back told place limit n h = let s = decimal-spells n in rw (s.digits, s.value, le-leb n limit h)
 
@@ -211,7 +211,7 @@ line_first word rest more p q =
 line_read : (form : Form) (word : List ℕ) (rest : List (List ℕ)) → Plain word → AllPlain rest → read_line form (body word rest) ≡ words_line form (word ∷ rest)
 unfolding read_line plain_line
 line_read form word rest p q =
-    ap (λ (b : Bool). cond b (LineWrong LoneReturn) (plain_line form (body word rest))) (le-ltb (length (before (is_mark Return) (body word rest)) + 1) (length (body word rest)) (omega (arith, ap length whole)))
+    ap (λ (b : Bool). cond b (Err LoneReturn) (plain_line form (body word rest))) (le-ltb (length (before (is_mark Return) (body word rest)) + 1) (length (body word rest)) (omega (arith, ap length whole)))
     ∙ ap (λ (l : List ℕ). words_line form (words l)) (before-free (is_mark Comment) (body word rest) (body-free (is_mark Comment) refl (λ w x. x.comment) word rest p q))
     ∙ ap (words_line form) (body-words word rest p q)
   where
@@ -227,7 +227,7 @@ record Written (form : Form) (A : Type 0) : Type 1 where
   pub row : A → Row
   pub Fits : A → Type 0
   pub plain : (a : A) → Plain (word a) × AllPlain (rest a)
-  pub reads : (a : A) → Fits a → words_line form (word a ∷ rest a) ≡ Found (row a)
+  pub reads : (a : A) → Fits a → words_line form (word a ∷ rest a) ≡ Ok (Found (row a))
 
 module _ {A : Type 0} (form : Form) (W : Written form A) where
   abbrev text : A → List ℕ
@@ -241,10 +241,10 @@ module _ {A : Type 0} (form : Form) (W : Written form A) where
       let next : Rows = record { rows = r.rows ++ (W.row x ∷ []); at = r.at ++ (number ∷ []); range = r.range } in
       let long : length (r.rows ++ (W.row x ∷ [])) + length xs ≤ most_jobs = omega (arith, length-append r.rows (W.row x ∷ [])) in
       let more = rows-read (number + 1) next xs fit.1 long in
-      let fits : with_line number (Found (W.row x)) (given r) ≡ given next = rw (lt-ltb (length r.rows) most_jobs (omega arith)) in (
+      let fits : with_line number (Ok (Found (W.row x))) (given r) ≡ given next = rw (lt-ltb (length r.rows) most_jobs (omega arith)) in (
         more.0,
         ap (read_lines form number (given r)) (line_first (W.word x) (W.rest x) (flat text xs) (W.plain x).0 (W.plain x).1)
-            ∙ ap (λ (l : LineAnswer). read_lines form (number + 1) (with_line number l (given r)) (lines (flat text xs))) (line_read form (W.word x) (W.rest x) (W.plain x).0 (W.plain x).1 ∙ W.reads x fit.0)
+            ∙ ap (λ (l : Result Line Fault). read_lines form (number + 1) (with_line number l (given r)) (lines (flat text xs))) (line_read form (W.word x) (W.rest x) (W.plain x).0 (W.plain x).1 ∙ W.reads x fit.0)
             ∙ ap (λ (g : Reading Rows). read_lines form (number + 1) g (lines (flat text xs))) fits
             ∙ more.1,
         more.2 ∙ append_assoc r.rows (W.row x ∷ []) (map W.row xs),
@@ -263,10 +263,10 @@ line-starts word (next ∷ rest) more p = rw (append_assoc word (space ∷ line_
 
 -- ---- one field
 
-field_step : (form : Form) (seen : List ℕ) (limit : ℕ) (limits word : List ℕ) (rest : List (List ℕ)) (n : ℕ) → word_of form (length seen) limit word ≡ Number n
+field_step : (form : Form) (seen : List ℕ) (limit : ℕ) (limits word : List ℕ) (rest : List (List ℕ)) (n : ℕ) → word_of form (length seen) limit word ≡ Ok n
     → fields_from form seen (limit ∷ limits) (word ∷ rest) ≡ fields_from form (seen ++ (n ∷ [])) limits rest
 field_step form seen limit limits word rest n e =
-    ap (λ (w : WordAnswer). elim w [ Number m ↦ fields_from form (seen ++ (m ∷ [])) limits rest | Wrong fault ↦ wrong fault ]) e
+    ap (λ (w : Result ℕ Fault). elim w [ Ok m ↦ fields_from form (seen ++ (m ∷ [])) limits rest | Err fault ↦ Err fault ]) e
 
 -- ---- jobs
 
@@ -278,7 +278,7 @@ delay-plain zero = tt
 delay-plain (suc delay) = (decimal-plain (suc delay), tt)
 
 job_read : (id cost period deadline delay : ℕ) → (id ≤ 255) × (delay ≤ 255) × (cost ≤ 65535) × (period ≤ 65535) × (deadline ≤ 65535)
-    → words_line JobForm (decimal id ∷ decimal cost ∷ decimal period ∷ decimal deadline ∷ delay_words delay) ≡ Found (job_row (record { id = id; delay = delay; cost = cost; period = period; deadline = deadline }))
+    → words_line JobForm (decimal id ∷ decimal cost ∷ decimal period ∷ decimal deadline ∷ delay_words delay) ≡ Ok (Found (job_row (record { id = id; delay = delay; cost = cost; period = period; deadline = deadline })))
 unfolding word_of
 job_read id cost period deadline delay fit =
     ap (λ (b : Bool). cond b (range_line (row_answer (read_fields QuantaForm (decimal cost ∷ decimal period ∷ decimal deadline ∷ delay_words delay)))) (row_line (row_answer (read_fields JobForm (decimal id ∷ decimal cost ∷ decimal period ∷ decimal deadline ∷ delay_words delay))))) (not-word id quanta_word refl)
@@ -290,7 +290,7 @@ job_read id cost period deadline delay fit =
     ∙ last delay fit.1
   where
     last : (d : ℕ) → d ≤ 255 → row_line (row_answer (fields_from JobForm (id ∷ cost ∷ period ∷ deadline ∷ []) (255 ∷ []) (delay_words d)))
-        ≡ Found (job_row (record { id = id; delay = d; cost = cost; period = period; deadline = deadline }))
+        ≡ Ok (Found (job_row (record { id = id; delay = d; cost = cost; period = period; deadline = deadline })))
     last zero h = refl
     last (suc d) h = ap (λ (x : Numbers). row_line (row_answer x)) (field_step JobForm (id ∷ cost ∷ period ∷ deadline ∷ []) 255 [] (decimal (suc d)) [] (suc d) (number-back 255 5 255 (suc d) h))
 
@@ -314,7 +314,7 @@ jobs-back (job ∷ jobs) fit =
     (jobs-back jobs fit.1)
 
 -- The line of a range.
-range-read : (low high : ℕ) → (low ≤ 255) × (high ≤ 255) → words_line JobForm (quanta_word ∷ decimal low ∷ decimal high ∷ []) ≡ RangeOf low high
+range-read : (low high : ℕ) → (low ≤ 255) × (high ≤ 255) → words_line JobForm (quanta_word ∷ decimal low ∷ decimal high ∷ []) ≡ Ok (RangeOf (record { low = low; high = high }))
 unfolding word_of
 range-read low high fit =
     ap (λ (b : Bool). cond b (range_line (row_answer (read_fields QuantaForm (decimal low ∷ decimal high ∷ [])))) (row_line (row_answer (read_fields JobForm (quanta_word ∷ decimal low ∷ decimal high ∷ []))))) ((same-exactly quanta_word quanta_word).1 refl)
@@ -340,7 +340,7 @@ list_back (some range) jobs rf fit few =
       w.0,
       ap (λ (k : ℕ). read_lines JobForm 1 (given no_rows) (lines (drop k (line_text quanta_word rest ++ flat job_text jobs)))) (no-mark (line_text quanta_word rest ++ flat job_text jobs) (line-starts quanta_word rest (flat job_text jobs) quanta-plain))
           ∙ ap (read_lines JobForm 1 (given no_rows)) (line_first quanta_word rest (flat job_text jobs) quanta-plain plain)
-          ∙ ap (λ (l : LineAnswer). read_lines JobForm 2 (with_line 1 l (given no_rows)) (lines (flat job_text jobs))) (line_read JobForm quanta_word rest quanta-plain plain ∙ range-read range.0 range.1 rf)
+          ∙ ap (λ (l : Result Line Fault). read_lines JobForm 2 (with_line 1 l (given no_rows)) (lines (flat job_text jobs))) (line_read JobForm quanta_word rest quanta-plain plain ∙ range-read range.0 range.1 rf)
           ∙ w.1,
       ap (map job_from) w.2 ∙ jobs-back jobs fit,
       w.3,
@@ -354,7 +354,7 @@ setting_row setting = record { first = setting.id; second = setting.level; third
 robin-not-fifo : same_bytes round_robin_name fifo_name ≡ false
 robin-not-fifo = other round_robin_name fifo_name (λ e. false≢true (ap (λ (l : List ℕ). eqb (get_or l 0 0) 102) e))
 
-policy-read : (place policy : ℕ) → policy ≤ 255 → policy_or (policy_word policy) (number_of place 2 255 (policy_word policy)) ≡ Number policy
+policy-read : (place policy : ℕ) → policy ≤ 255 → policy_or (policy_word policy) (number_of place 2 255 (policy_word policy)) ≡ Ok policy
 unfolding policy_or policy_named
 policy-read place zero fit = rw ((same-exactly none_name none_name).1 refl)
 policy-read place (suc zero) fit = rw (differ, (same-exactly fifo_name fifo_name).1 refl)
@@ -370,10 +370,10 @@ policy-read place (suc (suc (suc policy))) fit =
     rw (not-word n none_name refl, not-word n fifo_name refl, not-word n round_robin_name refl, number-back 2 place 255 n fit)
 
 setting-read : (setting : Setting) → SettingFits setting
-    → words_line SettingForm (decimal setting.id ∷ decimal setting.level ∷ policy_word setting.policy ∷ decimal setting.quantum ∷ []) ≡ Found (setting_row setting)
+    → words_line SettingForm (decimal setting.id ∷ decimal setting.level ∷ policy_word setting.policy ∷ decimal setting.quantum ∷ []) ≡ Ok (Found (setting_row setting))
 unfolding word_of
 setting-read setting fit =
-    ap (λ (b : Bool). cond b Skipped (row_line (row_answer (read_fields SettingForm (decimal setting.id ∷ decimal setting.level ∷ policy_word setting.policy ∷ decimal setting.quantum ∷ []))))) (not-word setting.id placed_word refl)
+    ap (λ (b : Bool). cond b (Ok Skipped) (row_line (row_answer (read_fields SettingForm (decimal setting.id ∷ decimal setting.level ∷ policy_word setting.policy ∷ decimal setting.quantum ∷ []))))) (not-word setting.id placed_word refl)
     ∙ ap (λ (x : Numbers). row_line (row_answer x))
     (field_step SettingForm [] 255 (255 ∷ 255 ∷ 255 ∷ 65535 ∷ []) (decimal setting.id) (decimal setting.level ∷ policy_word setting.policy ∷ decimal setting.quantum ∷ []) setting.id (number-back 255 1 255 setting.id fit.0)
     ∙ field_step SettingForm (setting.id ∷ []) 255 (255 ∷ 255 ∷ 65535 ∷ []) (decimal setting.level) (policy_word setting.policy ∷ decimal setting.quantum ∷ []) setting.level (number-back 8 2 255 setting.level fit.1)
@@ -416,7 +416,7 @@ configuration-back settings fit few =
 abbrev kernel_row : KernelRecord → Row
 kernel_row kernel = record { first = kernel.id; second = kernel.policy; third = kernel.priority.0; fourth = kernel.quantum; fifth = 0 }
 
-name-read : (policy : ℕ) → fifo ≤ policy → policy ≤ round_robin → policy_named (policy_word policy) ≡ Number policy
+name-read : (policy : ℕ) → fifo ≤ policy → policy ≤ round_robin → policy_named (policy_word policy) ≡ Ok policy
 unfolding policy_named
 name-read zero a b = absurd (omega arith)
 name-read (suc zero) a b = rw ((same-exactly fifo_name fifo_name).1 refl)
@@ -424,7 +424,7 @@ name-read (suc (suc zero)) a b = rw (robin-not-fifo, (same-exactly round_robin_n
 name-read (suc (suc (suc policy))) a b = absurd (omega arith)
 
 kernel-read : (kernel : KernelRecord) → KernelFits kernel
-    → words_line KernelForm (decimal kernel.id ∷ policy_word kernel.policy ∷ decimal kernel.priority.0 ∷ decimal kernel.quantum ∷ []) ≡ Found (kernel_row kernel)
+    → words_line KernelForm (decimal kernel.id ∷ policy_word kernel.policy ∷ decimal kernel.priority.0 ∷ decimal kernel.quantum ∷ []) ≡ Ok (Found (kernel_row kernel))
 unfolding word_of
 kernel-read kernel fit =
     let priority = kernel.priority.0 in

@@ -1,6 +1,6 @@
 -- Texts as blocks: the records of a text's rows. Assumes nothing.
-use Rattle.std.specs.Prelude.{ℕ, cond, List, [], map, take}
-use Rattle.std.proofs.Math.Option.{Option, none, some}
+use Rattle.std.specs.Prelude.{ℕ, List, [], map, take, Result, Ok, Err}
+use Rattle.std.proofs.Math.Option.{Option}
 use Rattle.records.specs.Refusals.{Answer, given as gives}
 use Rattle.records.specs.Records.{flat, write_records}
 use Rattle.records.specs.Jobs.{job_size, job_bytes}
@@ -11,9 +11,9 @@ use Rattle.kernel.specs.KernelRecords.{kernel_size, kernel_bytes}
 use Rattle.lists.specs.declared.fields.Form.{Form}
 use Rattle.lists.specs.declared.fields.Form.TheVariants.{Job, Setting, Kernel, Quanta}
 use Rattle.lists.specs.declared.fields.Row.{Row}
-use Rattle.lists.specs.declared.rows.RowsAnswer.TheVariants.{Rows as Entries, Faulty}
+use Rattle.lists.specs.declared.rows.FaultyLine.{FaultyLine}
 use Rattle.lists.specs.declared.blocks.BlockRead.{BlockRead}
-use Rattle.lists.specs.Rows.{Rows, Reading, given, faulty}
+use Rattle.lists.specs.Rows.{Rows, Reading, given, faulty, range_of}
 use Rattle.lists.specs.Lists.{job_from, setting_from, kernel_from}
 
 -- The block of rows: job, configuration or kernel records.
@@ -47,8 +47,9 @@ abbrev pub size_of : Counted → ℕ
 size_of (Count n) = n
 size_of (Refused refusal) = 0
 
-abbrev pub block_outcome : BlockRead → Reading Handed
-block_outcome r = elim r.answer [
-  | Entries n ↦ given (record { block = take r.size r.bytes; at = take n r.at; range = cond r.ranged (some (r.low, r.high)) none })
-  | Faulty number fault ↦ faulty number fault
-]
+abbrev pub handed : BlockRead → Handed
+handed b = record { block = take b.size b.bytes; at = take b.count b.at; range = range_of b.range }
+
+abbrev pub block_outcome : Result BlockRead FaultyLine → Reading Handed
+block_outcome (Ok b) = given (handed b)
+block_outcome (Err f) = faulty f.line f.fault

@@ -2,7 +2,8 @@
 -- which a delay of 0 may be left out, and may say its range in one line `quanta low high`; a configuration has rows `id level policy
 -- quantum`, with a policy's name or number, and a number after them, as a key has its bound there, is let by, and so is
 -- the last line of a key; kernel records have rows `id policy priority quantum`, with the name of a policy. Assumes nothing.
-use Rattle.std.specs.Prelude.{ℕ, ◌+◌, Bool, false, cond, List, [], ◌∷◌, ◌++◌, leb, ltb, eqb, length, get_or, drop, take}
+use Rattle.std.specs.Prelude.{ℕ, ◌+◌, Bool, false, cond, List, [], ◌∷◌, ◌++◌, leb, ltb, eqb, length, get_or, drop, take, Result, Ok, Err}
+use Rattle.std.specs.Prelude.{Option as Maybe, Some, None}
 use Rattle.std.proofs.Math.Option.{Option, none, some}
 use Rattle.records.specs.Limits.{most_jobs, longest_period, longest_deadline, longest_quantum}
 use Rattle.configuration.specs.Settings.{round_robin}
@@ -10,16 +11,13 @@ use Rattle.same_bytes.specs.Same.{same_bytes}
 use Rattle.lists.specs.declared.fault.Fault.{Fault}
 use Rattle.lists.specs.declared.fault.Fault.TheVariants.{NotAPolicy, NotAPolicyName, LoneReturn, JobWords, SettingWords, KernelWords, RangeWords, TooMany, SecondRange}
 use Rattle.lists.specs.declared.words.Mark.TheVariants.{Comment, Return}
-use Rattle.lists.specs.declared.words.WordAnswer.{WordAnswer}
-use Rattle.lists.specs.declared.words.WordAnswer.TheVariants.{Number, Wrong}
 use Rattle.lists.specs.declared.fields.Form.{Form}
 use Rattle.lists.specs.declared.fields.Form.TheVariants.{Job, Setting, Kernel, Quanta}
 use Rattle.lists.specs.declared.fields.Row.{Row}
-use Rattle.lists.specs.declared.fields.FieldsAnswer.{FieldsAnswer}
-use Rattle.lists.specs.declared.fields.FieldsAnswer.TheVariants.{Read, Wrong as FieldsWrong}
-use Rattle.lists.specs.declared.rows.LineAnswer.{LineAnswer}
-use Rattle.lists.specs.declared.rows.LineAnswer.TheVariants.{Skipped, Found, RangeOf, Wrong as LineWrong}
-use Rattle.lists.specs.declared.rows.RowsAnswer.TheVariants.{Rows as Entries, Faulty}
+use Rattle.lists.specs.declared.rows.Line.{Line}
+use Rattle.lists.specs.declared.rows.Line.TheVariants.{Skipped, Found, RangeOf}
+use Rattle.lists.specs.declared.rows.SaidRange.{SaidRange}
+use Rattle.lists.specs.declared.rows.FaultyLine.{FaultyLine}
 use Rattle.lists.specs.declared.rows.RowsRead.{RowsRead}
 use Rattle.lists.specs.Words.{is_mark, before, lines, words, number_of}
 
@@ -86,40 +84,39 @@ abbrev pub round_robin_name : List ℕ
 round_robin_name = 114 ∷ 114 ∷ []
 
 -- The number of a placed job's policy, by its name; a kernel record's policy is one of these.
-unfoldable pub policy_named : List ℕ → WordAnswer
-policy_named word = cond (same_bytes word fifo_name) (Number 1) (cond (same_bytes word round_robin_name) (Number 2) (Wrong NotAPolicyName))
+unfoldable pub policy_named : List ℕ → Result ℕ Fault
+policy_named word = cond (same_bytes word fifo_name) (Ok 1) (cond (same_bytes word round_robin_name) (Ok 2) (Err NotAPolicyName))
 
 -- A setting's policy: its number by its name, or the number that the word is.
-abbrev pub number_only : WordAnswer → WordAnswer
-number_only (Number n) = Number n
-number_only (Wrong fault) = Wrong NotAPolicy
+abbrev pub number_only : Result ℕ Fault → Result ℕ Fault
+number_only (Ok n) = Ok n
+number_only (Err fault) = Err NotAPolicy
 
-abbrev pub named_or : WordAnswer → WordAnswer → WordAnswer
-named_or (Number n) other = Number n
-named_or (Wrong fault) other = number_only other
+abbrev pub named_or : Result ℕ Fault → Result ℕ Fault → Result ℕ Fault
+named_or (Ok n) other = Ok n
+named_or (Err fault) other = number_only other
 
-unfoldable pub policy_or : List ℕ → WordAnswer → WordAnswer
-policy_or word other = cond (same_bytes word none_name) (Number 0) (named_or (policy_named word) other)
+unfoldable pub policy_or : List ℕ → Result ℕ Fault → Result ℕ Fault
+policy_or word other = cond (same_bytes word none_name) (Ok 0) (named_or (policy_named word) other)
 
 -- The word of field i.
-unfoldable pub word_of : Form → ℕ → ℕ → List ℕ → WordAnswer
+unfoldable pub word_of : Form → ℕ → ℕ → List ℕ → Result ℕ Fault
 word_of form i limit word =
     let number = number_of (place_of form i) (get_or (told_of form) i 0) limit word in
     cond (is_name_only form i) (policy_named word) (cond (is_named form i) (policy_or word number) number)
 
 -- The numbers of a line, or what is wrong with it.
-pub data Numbers : Type 0 where
-  numbers : List ℕ → Numbers
-  wrong : Fault → Numbers
+abbrev pub Numbers : Type 0
+Numbers = Result (List ℕ) Fault
 
 -- The words of the fields that have these limits, `seen` being the numbers of the fields before them. The first faulty word decides, then
 -- the number of words.
 abbrev pub fields_from : Form → List ℕ → List ℕ → List (List ℕ) → Numbers
-fields_from form seen [] [] = numbers seen
-fields_from form seen [] (word ∷ rest) = wrong (count_fault form)
-fields_from form seen (limit ∷ limits) [] = cond (leb (needed_of form) (length seen)) (numbers seen) (wrong (count_fault form))
+fields_from form seen [] [] = Ok seen
+fields_from form seen [] (word ∷ rest) = Err (count_fault form)
+fields_from form seen (limit ∷ limits) [] = cond (leb (needed_of form) (length seen)) (Ok seen) (Err (count_fault form))
 fields_from form seen (limit ∷ limits) (word ∷ rest) =
-    elim (word_of form (length seen) limit word) [ Number n ↦ fields_from form (seen ++ (n ∷ [])) limits rest | Wrong fault ↦ wrong fault ]
+    elim (word_of form (length seen) limit word) [ Ok n ↦ fields_from form (seen ++ (n ∷ [])) limits rest | Err fault ↦ Err fault ]
 
 abbrev pub read_fields : Form → List (List ℕ) → Numbers
 read_fields form rest = fields_from form [] (limits_of form) rest
@@ -129,9 +126,9 @@ abbrev pub row_of : List ℕ → Row
 row_of n = record { first = get_or n 0 0; second = get_or n 1 0; third = get_or n 2 0; fourth = get_or n 3 0; fifth = get_or n 4 0 }
 
 -- What read_fields answers.
-abbrev pub row_answer : Numbers → FieldsAnswer
-row_answer (numbers n) = Read (row_of n)
-row_answer (wrong fault) = FieldsWrong fault
+abbrev pub row_answer : Numbers → Result Row Fault
+row_answer (Ok n) = Ok (row_of n)
+row_answer (Err fault) = Err fault
 
 -- ---- a line
 
@@ -157,23 +154,23 @@ says_placed Kernel word = false
 says_placed Quanta word = false
 
 -- What a line of fields holds.
-abbrev pub row_line : FieldsAnswer → LineAnswer
-row_line (Read row) = Found row
-row_line (FieldsWrong fault) = LineWrong fault
+abbrev pub row_line : Result Row Fault → Result Line Fault
+row_line (Ok row) = Ok (Found row)
+row_line (Err fault) = Err fault
 
-abbrev pub range_line : FieldsAnswer → LineAnswer
-range_line (Read row) = RangeOf row.first row.second
-range_line (FieldsWrong fault) = LineWrong fault
+abbrev pub range_line : Result Row Fault → Result Line Fault
+range_line (Ok row) = Ok (RangeOf (record { low = row.first; high = row.second }))
+range_line (Err fault) = Err fault
 
 -- A line of these words: without words it is skipped, and so is the last line of a key.
-abbrev pub words_line : Form → List (List ℕ) → LineAnswer
-words_line form [] = Skipped
+abbrev pub words_line : Form → List (List ℕ) → Result Line Fault
+words_line form [] = Ok Skipped
 words_line form (word ∷ rest) =
     cond (says_range form word) (range_line (row_answer (read_fields Quanta rest)))
-    (cond (says_placed form word) Skipped (row_line (row_answer (read_fields form (word ∷ rest)))))
+    (cond (says_placed form word) (Ok Skipped) (row_line (row_answer (read_fields form (word ∷ rest)))))
 
 -- A line without carriage returns: from `#` on it is a comment.
-unfoldable pub plain_line : Form → List ℕ → LineAnswer
+unfoldable pub plain_line : Form → List ℕ → Result Line Fault
 plain_line form line = words_line form (words (before (is_mark Comment) line))
 
 -- A carriage return stands before the last byte. At the end of a line it is part of a line end of two bytes; within one it would join what
@@ -181,8 +178,8 @@ plain_line form line = words_line form (words (before (is_mark Comment) line))
 abbrev pub lone_return : List ℕ → Bool
 lone_return line = ltb (length (before (is_mark Return) line) + 1) (length line)
 
-unfoldable pub read_line : Form → List ℕ → LineAnswer
-read_line form line = cond (lone_return line) (LineWrong LoneReturn) (plain_line form line)
+unfoldable pub read_line : Form → List ℕ → Result Line Fault
+read_line form line = cond (lone_return line) (Err LoneReturn) (plain_line form line)
 
 -- ---- a text
 
@@ -210,12 +207,12 @@ with_range number low high r = elim r.range [
   | some range ↦ faulty number SecondRange
 ]
 
-abbrev pub with_line : ℕ → LineAnswer → Reading Rows → Reading Rows
+abbrev pub with_line : ℕ → Result Line Fault → Reading Rows → Reading Rows
 with_line number line (faulty earlier fault) = faulty earlier fault
-with_line number Skipped (given r) = given r
-with_line number (LineWrong fault) (given r) = faulty number fault
-with_line number (RangeOf low high) (given r) = with_range number low high r
-with_line number (Found row) (given r) = with_row number row r
+with_line number (Err fault) (given r) = faulty number fault
+with_line number (Ok Skipped) (given r) = given r
+with_line number (Ok (RangeOf range)) (given r) = with_range number range.low range.high r
+with_line number (Ok (Found row)) (given r) = with_row number row r
 
 -- The lines of a text one after the other, the first of them being line `number`.
 abbrev pub read_lines : Form → ℕ → Reading Rows → List (List ℕ) → Reading Rows
@@ -234,9 +231,20 @@ read_text form text = read_lines form 1 (given no_rows) (lines (drop (mark_size 
 
 -- ---- what the reader answers
 
--- The rows that n entries of its tables hold, and the range where it says one.
-abbrev pub rows_in : ℕ → RowsRead → Rows
-rows_in n r = record { rows = take n r.rows; at = take n r.at; range = cond r.ranged (some (r.low, r.high)) none }
+-- The range that a text says, where it says one.
+abbrev pub range_of : Maybe SaidRange → Option (ℕ × ℕ)
+range_of None = none
+range_of (Some range) = some (range.low, range.high)
 
-abbrev pub rows_outcome : RowsRead → Reading Rows
-rows_outcome r = elim r.answer [ Entries n ↦ given (rows_in n r) | Faulty number fault ↦ faulty number fault ]
+-- The rows that the first entries of its tables hold, and the range where it says one.
+abbrev pub rows_in : RowsRead → Rows
+rows_in r = record { rows = take r.count r.rows; at = take r.count r.at; range = range_of r.range }
+
+abbrev pub rows_outcome : Result RowsRead FaultyLine → Reading Rows
+rows_outcome (Ok r) = given (rows_in r)
+rows_outcome (Err f) = faulty f.line f.fault
+
+-- What was read once line `number` is taken too, where it isn't faulty.
+abbrev pub line_outcome : {A : Type 0} → ℕ → RowsRead → Result A Fault → Reading Rows
+line_outcome number r (Ok done) = given (rows_in r)
+line_outcome number r (Err fault) = faulty number fault

@@ -1,12 +1,10 @@
 -- Texts: their bytes, lines, words and numbers. Assumes nothing.
-use Rattle.std.specs.Prelude.{ℕ, ◌+◌, ◌-◌, ◌*◌, Bool, true, cond, not, ◌&&◌, ◌||◌, List, [], ◌∷◌, ◌++◌, leb, eqb}
+use Rattle.std.specs.Prelude.{ℕ, ◌+◌, ◌-◌, ◌*◌, Bool, true, cond, not, ◌&&◌, ◌||◌, List, [], ◌∷◌, ◌++◌, leb, eqb, Result, Ok, Err}
 use Rattle.lists.specs.Decimals.{space, line_feed, digit}
 use Rattle.lists.specs.declared.fault.Fault.{Fault}
-use Rattle.lists.specs.declared.fault.Fault.TheVariants.{NotANumber, TooLarge, TooMany}
+use Rattle.lists.specs.declared.fault.Fault.TheVariants.{NotANumber, TooLarge}
 use Rattle.lists.specs.declared.words.Mark.{Mark}
 use Rattle.lists.specs.declared.words.Mark.TheVariants.{LineEnd, Comment, Return, Hyphen, Blank, Word}
-use Rattle.lists.specs.declared.words.WordAnswer.{WordAnswer}
-use Rattle.lists.specs.declared.words.WordAnswer.TheVariants.{Number, Wrong}
 
 -- ---- bytes
 
@@ -82,10 +80,5 @@ value_from n (byte ∷ word) = value_from (n * 10 + (byte - digit 0)) word
 
 -- A word as a number of at most `limit`: its bytes are digits, and what they stand for is not too large. `place` is the word's in its
 -- line, counted from 1, and `told` the limit that is told of a number that is too large.
-unfoldable pub number_of : ℕ → ℕ → ℕ → List ℕ → WordAnswer
-number_of place told limit word = cond (all_digits word) (cond (leb (value_from 0 word) limit) (Number (value_from 0 word)) (Wrong (TooLarge place told))) (Wrong (NotANumber place))
-
--- The fault of a word; TooMany where there is none.
-abbrev pub fault_of : WordAnswer → Fault
-fault_of (Number n) = TooMany
-fault_of (Wrong fault) = fault
+unfoldable pub number_of : ℕ → ℕ → ℕ → List ℕ → Result ℕ Fault
+number_of place told limit word = cond (all_digits word) (cond (leb (value_from 0 word) limit) (Ok (value_from 0 word)) (Err (TooLarge place told))) (Err (NotANumber place))

@@ -1,5 +1,5 @@
 // What can be wrong with a line of a text.
-#[derive(Clone, Copy)]
+#[derive(Clone, Copy, Debug, PartialEq, Eq)]
 pub enum Fault {
     // The word at a place of its line, counted from 1, is no number, or is above the limit that stands beside it.
     NotANumber(u8),

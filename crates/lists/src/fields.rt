@@ -2,15 +2,15 @@
 ghost use Rattle.std.specs.Prelude.{◌≡◌, ◌≤◌, ◌<◌, length, get_or, drop};
 ghost use Rattle.records.specs.Records.{table};
 ghost use Rattle.lists.specs.Words.{words};
-ghost use Rattle.lists.specs.Rows.{limits_of, needed_of, count_fault, place_of, told_of, is_named, is_name_only, number_only, policy_or, policy_named, word_of, read_fields, row_of, row_answer};
+ghost use Rattle.lists.specs.Rows.{limits_of, needed_of, count_fault, place_of, told_of, is_named, is_name_only, policy_or, policy_named, word_of, read_fields, row_of, row_answer};
 
 use crate::fault::Fault;
 use crate::words;
-use crate::words::{Mark, WordAnswer};
+use crate::words::Mark;
 use same_bytes::same_bytes;
 
 // What a line holds: the numbers of a job, of a setting, of a kernel record, or those of a range.
-#[derive(Clone, Copy)]
+#[derive(Clone, Copy, Debug, PartialEq, Eq)]
 pub enum Form {
     Job,
     Setting,
@@ -18,8 +18,9 @@ pub enum Form {
     Quanta,
 }
 
-// The numbers of a line; those that are missing are 0.
-#[derive(Clone, Copy)]
+// The numbers of a line; those that are missing are 0. Fields and no array: a record is made of a row field by field, and an index would
+// be no plainer.
+#[derive(Clone, Copy, Debug, PartialEq, Eq)]
 pub struct Row {
     pub first: u16,
     pub second: u16,
@@ -39,207 +40,165 @@ impl Row {
     };
 }
 
-// What reading the fields of a line answers.
-#[derive(Clone, Copy)]
-pub enum FieldsAnswer {
-    Read(Row),
-    Wrong(Fault),
+impl From<[u16; MOST]> for Row {
+    ghost from_gives = { λ numbers row. row ≡ row_of numbers };
+
+    fn from([first, second, third, fourth, fifth]: [u16; MOST]) -> Row {
+        Row {
+            first,
+            second,
+            third,
+            fourth,
+            fifth,
+        }
+    }
 }
 
 // The most fields of a line.
 const MOST: usize = 5;
 
-fn limits_of(form: Form) -> [u16; MOST]
-    ensures { result ≡ table 5 0 (limits_of form) }
-{
-    match form {
-        Form::Job => [255, 65535, 65535, 65535, 255],
-        Form::Setting => [255, 255, 255, 255, 65535],
-        Form::Kernel => [255, 255, 255, 255, 0],
-        Form::Quanta => [255, 255, 0, 0, 0],
+impl Form {
+    // The largest numbers, field by field.
+    fn limits(self) -> &'static [u16]
+        ensures { result.now ≡ limits_of self }
+    {
+        match self {
+            Form::Job => &[255, 65535, 65535, 65535, 255],
+            Form::Setting => &[255, 255, 255, 255, 65535],
+            Form::Kernel => &[255, 255, 255, 255],
+            Form::Quanta => &[255, 255],
+        }
     }
-}
 
-// How many fields a form has.
-fn fields_of(form: Form) -> usize
-    ensures { result ≡ length (limits_of form) }
-{
-    match form {
-        Form::Job => 5,
-        Form::Setting => 5,
-        Form::Kernel => 4,
-        Form::Quanta => 2,
+    // How many fields there have to be.
+    fn needed(self) -> usize
+        ensures { result ≡ needed_of self }
+    {
+        match self {
+            Form::Job | Form::Setting | Form::Kernel => 4,
+            Form::Quanta => 2,
+        }
     }
-}
 
-fn needed_of(form: Form) -> usize
-    ensures { result ≡ needed_of form }
-{
-    match form {
-        Form::Job => 4,
-        Form::Setting => 4,
-        Form::Kernel => 4,
-        Form::Quanta => 2,
+    // What is wrong where there are fewer, or more than there are fields.
+    fn count_fault(self) -> Fault
+        ensures { result ≡ count_fault self }
+    {
+        match self {
+            Form::Job => Fault::JobWords,
+            Form::Setting => Fault::SettingWords,
+            Form::Kernel => Fault::KernelWords,
+            Form::Quanta => Fault::RangeWords,
+        }
     }
-}
 
-fn count_fault(form: Form) -> Fault
-    ensures { result ≡ count_fault form }
-{
-    match form {
-        Form::Job => Fault::JobWords,
-        Form::Setting => Fault::SettingWords,
-        Form::Kernel => Fault::KernelWords,
-        Form::Quanta => Fault::RangeWords,
+    // The place of field i among the words of its line, counted from 1: before a range stands its word.
+    fn place(self, i: usize) -> u8
+        requires { i < 5 }
+        ensures { result ≡ place_of self i }
+    {
+        match self {
+            Form::Job | Form::Setting | Form::Kernel => i as u8 + 1,
+            Form::Quanta => i as u8 + 2,
+        }
     }
-}
 
-fn place_of(form: Form, i: usize) -> u8
-    requires { i < 5 }
-    ensures { result ≡ place_of form i }
-{
-    match form {
-        Form::Job => i as u8 + 1,
-        Form::Setting => i as u8 + 1,
-        Form::Kernel => i as u8 + 1,
-        Form::Quanta => i as u8 + 2,
+    // The limits that are told of larger numbers: those of an accepted job, setting, kernel record or range.
+    fn told(self) -> [u16; MOST]
+        ensures { result ≡ told_of self }
+    {
+        match self {
+            Form::Job => [255, 60000, 60000, 60000, 255],
+            Form::Setting => [255, 8, 2, 64, 65535],
+            Form::Kernel => [255, 0, 255, 64, 0],
+            Form::Quanta => [64, 64, 0, 0, 0],
+        }
     }
-}
 
-// The limits that are told of larger numbers: those of an accepted job, setting, kernel record or range.
-fn told_of(form: Form) -> [u16; MOST]
-    ensures { result ≡ told_of form }
-{
-    match form {
-        Form::Job => [255, 60000, 60000, 60000, 255],
-        Form::Setting => [255, 8, 2, 64, 65535],
-        Form::Kernel => [255, 0, 255, 64, 0],
-        Form::Quanta => [64, 64, 0, 0, 0],
+    // Whether field i is a policy that may have its name.
+    fn is_named(self, i: usize) -> bool
+        ensures { result ≡ is_named self i }
+    {
+        match self {
+            Form::Setting => i == 2,
+            Form::Job | Form::Kernel | Form::Quanta => false,
+        }
     }
-}
 
-fn told_at(form: Form, i: usize) -> u16
-    requires { i < 5 }
-    ensures { result ≡ get_or (told_of form) i 0 }
-{
-    let told = told_of(form);
-    told[i]
-}
-
-fn is_named(form: Form, i: usize) -> bool
-    ensures { result ≡ is_named form i }
-{
-    match form {
-        Form::Job => false,
-        Form::Setting => i == 2,
-        Form::Kernel => false,
-        Form::Quanta => false,
-    }
-}
-
-fn is_name_only(form: Form, i: usize) -> bool
-    ensures { result ≡ is_name_only form i }
-{
-    match form {
-        Form::Job => false,
-        Form::Setting => false,
-        Form::Kernel => i == 1,
-        Form::Quanta => false,
-    }
-}
-
-// A policy that is no name is a number.
-fn number_only(other: WordAnswer) -> WordAnswer
-    ensures { result ≡ number_only other }
-{
-    match other {
-        WordAnswer::Number(number) => WordAnswer::Number(number),
-        WordAnswer::Wrong(_) => WordAnswer::Wrong(Fault::NotAPolicy),
+    // Whether field i is a policy that has its name alone.
+    fn is_name_only(self, i: usize) -> bool
+        ensures { result ≡ is_name_only self i }
+    {
+        match self {
+            Form::Kernel => i == 1,
+            Form::Job | Form::Setting | Form::Quanta => false,
+        }
     }
 }
 
 // The number of a placed job's policy, by its name.
-fn policy_named(word: &[u8]) -> WordAnswer
+#[tactic(auto, unfolding(crate::specs::Rows::policy_named))]
+fn policy_named(word: &[u8]) -> Result<u16, Fault>
     ensures { result ≡ policy_named word.now }
 {
     if same_bytes(word, b"fifo") {
-        return WordAnswer::Number(1);
+        return Ok(1);
     }
     if same_bytes(word, b"rr") {
-        return WordAnswer::Number(2);
+        return Ok(2);
     }
-    WordAnswer::Wrong(Fault::NotAPolicyName)
+    Err(Fault::NotAPolicyName)
 }
 
 // A policy's number by its name, or the number that the word is.
-fn policy_or(word: &[u8], other: WordAnswer) -> WordAnswer
+#[tactic(auto, unfolding(crate::specs::Rows::policy_or))]
+fn policy_or(word: &[u8], other: Result<u16, Fault>) -> Result<u16, Fault>
     ensures { result ≡ policy_or word.now other }
 {
     if same_bytes(word, b"none") {
-        return WordAnswer::Number(0);
+        return Ok(0);
     }
-    let named = policy_named(word);
-    if let WordAnswer::Number(number) = named {
-        return WordAnswer::Number(number);
-    }
-    number_only(other)
+    policy_named(word).or(other.map_err(|_| Fault::NotAPolicy))
 }
 
 // The word of field i.
-fn read_word(form: Form, i: usize, limit: u16, word: &[u8]) -> WordAnswer
+#[tactic(auto, unfolding(crate::specs::Rows::word_of))]
+fn read_word(form: Form, i: usize, limit: u16, word: &[u8]) -> Result<u16, Fault>
     requires { i < 5 }
     ensures { result ≡ word_of form i limit word.now }
 {
-    if is_name_only(form, i) {
+    if form.is_name_only(i) {
         return policy_named(word);
     }
-    let number = words::read_number(word, place_of(form, i), told_at(form, i), limit);
-    if is_named(form, i) {
+    let told = form.told();
+    let number = words::read_number(word, form.place(i), told[i], limit);
+    if form.is_named(i) {
         return policy_or(word, number);
     }
     number
 }
 
-fn row_of(numbers: [u16; MOST]) -> Row
-    ensures { result ≡ row_of numbers }
-{
-    Row {
-        first: numbers[0],
-        second: numbers[1],
-        third: numbers[2],
-        fourth: numbers[3],
-        fifth: numbers[4],
-    }
-}
-
 // The fields of a line from a place on.
-pub(crate) fn read_fields(form: Form, content: &[u8], from: usize) -> FieldsAnswer
+pub(crate) fn read_fields(form: Form, content: &[u8], from: usize) -> Result<Row, Fault>
     requires { from ≤ length content.now }
     ensures { result ≡ row_answer (read_fields form (words (drop from content.now))) }
 {
-    let limits = limits_of(form);
     let mut numbers = [0u16; MOST];
     let mut at = from;
-    let mut i = 0;
-    while i < fields_of(form) {
+    for (i, limit) in form.limits().iter().enumerate() {
         let start = words::find(Mark::Word, content, at);
         if start == content.len() {
-            if i < needed_of(form) {
-                return FieldsAnswer::Wrong(count_fault(form));
+            if i < form.needed() {
+                return Err(form.count_fault());
             }
-            return FieldsAnswer::Read(row_of(numbers));
+            return Ok(Row::from(numbers));
         }
         let end = words::find(Mark::Blank, content, start);
-        let word = read_word(form, i, limits[i], &content[start..end]);
-        let WordAnswer::Number(number) = word else {
-            return FieldsAnswer::Wrong(words::fault_of(word));
-        };
-        numbers[i] = number;
+        numbers[i] = read_word(form, i, *limit, &content[start..end])?;
         at = end;
-        i += 1;
     }
     if words::find(Mark::Word, content, at) < content.len() {
-        return FieldsAnswer::Wrong(count_fault(form));
+        return Err(form.count_fault());
     }
-    FieldsAnswer::Read(row_of(numbers))
+    Ok(Row::from(numbers))
 }

@@ -1,104 +1,94 @@
 // Texts of rows: job lists, configurations and kernel records, line by line.
-ghost use Rattle.std.specs.Prelude.{◌≡◌, ◌+◌, ◌≤◌, length, drop};
+ghost use Rattle.std.specs.Prelude.{◌≡◌, ℕ, ◌+◌, ◌≤◌, length, drop};
 ghost use Rattle.lists.specs.Words.{words};
-ghost use Rattle.lists.specs.Rows.{says_range, says_placed, row_line, range_line, words_line, plain_line, lone_return, read_line, with_row, with_range, with_line, faulty, mark_size, rows_in, rows_outcome, read_text};
+ghost use Rattle.lists.specs.Rows.{says_range, says_placed, words_line, plain_line, lone_return, read_line, with_row, with_range, with_line, mark_size, rows_in, line_outcome, rows_outcome, given, read_text};
 
 use crate::fault::Fault;
-use crate::fields::{FieldsAnswer, Form, Row};
+use crate::fields::{Form, Row};
 use crate::words::Mark;
 use crate::{fields, words};
 use records::job::Job;
 use same_bytes::same_bytes;
 
-// What a line holds.
-#[derive(Clone, Copy)]
-pub enum LineAnswer {
-    Skipped,
-    Found(Row),
-    RangeOf(u16, u16),
-    Wrong(Fault),
-}
-
-// What reading a text answers: the number of rows, or the first faulty line, counted from 1, and what is wrong with it.
-#[derive(Clone, Copy)]
-pub enum RowsAnswer {
-    Rows(usize),
-    Faulty(usize, Fault),
-}
-
-// The answer, and beside it the rows with the numbers of their lines, and the range that the text says; what stands beside a faulty line
-// says nothing.
-#[derive(Clone, Copy)]
-pub struct RowsRead {
-    pub answer: RowsAnswer,
-    pub rows: [Row; Job::MOST],
-    pub at: [usize; Job::MOST],
-    pub ranged: bool,
+// The range that a text says: the lowest and the highest quantum.
+#[derive(Clone, Copy, Debug, PartialEq, Eq)]
+pub struct SaidRange {
     pub low: u16,
     pub high: u16,
 }
 
-fn says_range(form: Form, word: &[u8]) -> bool
-    ensures { result ≡ says_range form word.now }
-{
-    match form {
-        Form::Job => same_bytes(word, b"quanta"),
-        Form::Setting => false,
-        Form::Kernel => false,
-        Form::Quanta => false,
-    }
+// What a line holds.
+#[derive(Clone, Copy, Debug, PartialEq, Eq)]
+pub enum Line {
+    Skipped,
+    Found(Row),
+    RangeOf(SaidRange),
 }
 
-fn says_placed(form: Form, word: &[u8]) -> bool
-    ensures { result ≡ says_placed form word.now }
-{
-    match form {
-        Form::Job => false,
-        Form::Setting => same_bytes(word, b"placed"),
-        Form::Kernel => false,
-        Form::Quanta => false,
-    }
+// The first faulty line of a text, counted from 1, and what is wrong with it.
+#[derive(Clone, Copy, Debug, PartialEq, Eq)]
+pub struct FaultyLine {
+    pub line: usize,
+    pub fault: Fault,
 }
 
-fn row_line(read: FieldsAnswer) -> LineAnswer
-    ensures { result ≡ row_line read }
-{
-    match read {
-        FieldsAnswer::Read(row) => LineAnswer::Found(row),
-        FieldsAnswer::Wrong(fault) => LineAnswer::Wrong(fault),
-    }
+// The rows of a text, each with the number of its line, and the range that it says. Memory is fixed, so a count says how many entries of a
+// table are used. Rows and numbers are two tables, since they part: the rows become records, and the numbers name these.
+#[derive(Clone, Copy)]
+pub struct RowsRead {
+    pub count: usize,
+    pub rows: [Row; Job::MOST],
+    pub at: [usize; Job::MOST],
+    pub range: Option<SaidRange>,
 }
 
-fn range_line(read: FieldsAnswer) -> LineAnswer
-    ensures { result ≡ range_line read }
-{
-    match read {
-        FieldsAnswer::Read(row) => LineAnswer::RangeOf(row.first, row.second),
-        FieldsAnswer::Wrong(fault) => LineAnswer::Wrong(fault),
+impl Form {
+    // Whether this first word begins a line that says a range.
+    fn says_range(self, word: &[u8]) -> bool
+        ensures { result ≡ says_range self word.now }
+    {
+        match self {
+            Form::Job => same_bytes(word, b"quanta"),
+            Form::Setting | Form::Kernel | Form::Quanta => false,
+        }
+    }
+
+    // Whether this first word begins the last line of a key.
+    fn says_placed(self, word: &[u8]) -> bool
+        ensures { result ≡ says_placed self word.now }
+    {
+        match self {
+            Form::Setting => same_bytes(word, b"placed"),
+            Form::Job | Form::Kernel | Form::Quanta => false,
+        }
     }
 }
 
 // A line without its comment.
-fn read_content(form: Form, content: &[u8]) -> LineAnswer
+fn read_content(form: Form, content: &[u8]) -> Result<Line, Fault>
     ensures { result ≡ words_line form (words content.now) }
 {
     let start = words::find(Mark::Word, content, 0);
     if start == content.len() {
-        return LineAnswer::Skipped;
+        return Ok(Line::Skipped);
     }
     let end = words::find(Mark::Blank, content, start);
-    if says_range(form, &content[start..end]) {
-        let read = fields::read_fields(Form::Quanta, content, end);
-        return range_line(read);
+    if form.says_range(&content[start..end]) {
+        let row = fields::read_fields(Form::Quanta, content, end)?;
+        return Ok(Line::RangeOf(SaidRange {
+            low: row.first,
+            high: row.second,
+        }));
     }
-    if says_placed(form, &content[start..end]) {
-        return LineAnswer::Skipped;
+    if form.says_placed(&content[start..end]) {
+        return Ok(Line::Skipped);
     }
-    let read = fields::read_fields(form, content, 0);
-    row_line(read)
+    let row = fields::read_fields(form, content, 0)?;
+    Ok(Line::Found(row))
 }
 
-fn read_plain(form: Form, line: &[u8]) -> LineAnswer
+#[tactic(auto, unfolding(crate::specs::Rows::plain_line))]
+fn read_plain(form: Form, line: &[u8]) -> Result<Line, Fault>
     ensures { result ≡ plain_line form line.now }
 {
     let end = words::find(Mark::Comment, line, 0);
@@ -110,136 +100,89 @@ fn has_lone_return(line: &[u8]) -> bool
     ensures { result ≡ lone_return line.now }
 {
     let at = words::find(Mark::Return, line, 0);
-    if at == line.len() {
-        return false;
-    }
-    if line.len() - at < 2 {
-        return false;
-    }
-    true
+    at + 1 < line.len()
 }
 
-fn read_line(form: Form, line: &[u8]) -> LineAnswer
+#[tactic(auto, unfolding(crate::specs::Rows::read_line))]
+fn read_line(form: Form, line: &[u8]) -> Result<Line, Fault>
     ensures { result ≡ read_line form line.now }
 {
     if has_lone_return(line) {
-        return LineAnswer::Wrong(Fault::LoneReturn);
+        return Err(Fault::LoneReturn);
     }
     read_plain(form, line)
 }
 
-fn faulty_at(number: usize, fault: Fault) -> RowsRead
-    ensures { rows_outcome result ≡ faulty number fault }
-{
-    RowsRead {
-        answer: RowsAnswer::Faulty(number, fault),
+impl RowsRead {
+    // Before the first line.
+    pub const NONE: RowsRead = RowsRead {
+        count: 0,
         rows: [Row::BLANK; Job::MOST],
-        at: [0usize; Job::MOST],
-        ranged: false,
-        low: 0,
-        high: 0,
-    }
-}
-
-// What was read so far, with one row more.
-fn with_row(read: RowsRead, count: usize, number: usize, row: Row) -> RowsRead
-    ensures { rows_outcome result ≡ with_row number row (rows_in count read) }
-{
-    if count < Job::MOST {
-        let mut rows = read.rows;
-        let mut at = read.at;
-        rows[count] = row;
-        at[count] = number;
-        return RowsRead {
-            answer: RowsAnswer::Rows(count + 1),
-            rows,
-            at,
-            ranged: read.ranged,
-            low: read.low,
-            high: read.high,
-        };
-    }
-    faulty_at(number, Fault::TooMany)
-}
-
-// The same with the range.
-fn with_range(read: RowsRead, count: usize, number: usize, low: u16, high: u16) -> RowsRead
-    ensures { rows_outcome result ≡ with_range number low high (rows_in count read) }
-{
-    if read.ranged {
-        return faulty_at(number, Fault::SecondRange);
-    }
-    let rows = read.rows;
-    let at = read.at;
-    RowsRead {
-        answer: RowsAnswer::Rows(count),
-        rows,
-        at,
-        ranged: true,
-        low,
-        high,
-    }
-}
-
-// The same with one line more.
-fn with_line(read: RowsRead, number: usize, line: LineAnswer) -> RowsRead
-    ensures { rows_outcome result ≡ with_line number line (rows_outcome read) }
-{
-    let answer = read.answer;
-    let RowsAnswer::Rows(count) = answer else {
-        return read;
+        at: [0; Job::MOST],
+        range: None,
     };
-    match line {
-        LineAnswer::Skipped => read,
-        LineAnswer::Found(row) => with_row(read, count, number, row),
-        LineAnswer::RangeOf(low, high) => with_range(read, count, number, low, high),
-        LineAnswer::Wrong(fault) => faulty_at(number, fault),
-    }
-}
 
-// The place after the end of a line: past its line feed, where it has one.
-fn past(text: &[u8], end: usize) -> usize
-    requires { end ≤ length text.now }
-    ensures { (result ≤ length text.now) × (drop result text.now ≡ drop (end + 1) text.now) }
-{
-    if end < text.len() { end + 1 } else { end }
+    // Takes one row more, from a line with this number.
+    fn put_row(&mut self, number: usize, row: Row) -> Result<(), Fault>
+        ensures { line_outcome number self.new result ≡ with_row number row (rows_in self.old) }
+    {
+        if Job::MOST <= self.count {
+            return Err(Fault::TooMany);
+        }
+        self.rows[self.count] = row;
+        self.at[self.count] = number;
+        self.count += 1;
+        Ok(())
+    }
+
+    // Takes the range, from a line with this number.
+    fn put_range(&mut self, range: SaidRange) -> Result<(), Fault>
+        ensures { (number : ℕ) → line_outcome number self.new result ≡ with_range number range.low range.high (rows_in self.old) }
+    {
+        if self.range.is_some() {
+            return Err(Fault::SecondRange);
+        }
+        self.range = Some(range);
+        Ok(())
+    }
+
+    // Reads one line more.
+    fn take_line(&mut self, form: Form, number: usize, line: &[u8]) -> Result<(), Fault>
+        ensures { line_outcome number self.new result ≡ with_line number (read_line form line.now) (given (rows_in self.old)) }
+    {
+        match read_line(form, line)? {
+            Line::Skipped => Ok(()),
+            Line::Found(row) => self.put_row(number, row),
+            Line::RangeOf(range) => self.put_range(range),
+        }
+    }
 }
 
 // The size of the mark that stands before a text, where there is one.
 fn mark_size(text: &[u8]) -> usize
     ensures { (result ≡ mark_size text.now) × (result ≤ length text.now) }
 {
-    if text.len() < 3 {
-        return 0;
+    if text.starts_with(&[0xEF, 0xBB, 0xBF]) {
+        3
+    } else {
+        0
     }
-    if same_bytes(&text[..3], &[0xEF, 0xBB, 0xBF]) {
-        return 3;
-    }
-    0
 }
 
 // Reads a text of rows.
-pub fn read_rows(form: Form, text: &[u8]) -> RowsRead
+pub fn read_rows(form: Form, text: &[u8]) -> Result<RowsRead, FaultyLine>
     ensures { rows_outcome result ≡ read_text form text.now }
 {
-    let mut read = RowsRead {
-        answer: RowsAnswer::Rows(0),
-        rows: [Row::BLANK; Job::MOST],
-        at: [0usize; Job::MOST],
-        ranged: false,
-        low: 0,
-        high: 0,
-    };
-    let mut passed = 0;
-    let mut place = mark_size(text);
-    while place < text.len() {
-        let end = words::find(Mark::LineEnd, text, place);
-        let number = passed + 1;
-        let line = read_line(form, &text[place..end]);
-        let next = with_line(read, number, line);
-        read = next;
-        passed = number;
-        place = past(text, end);
+    let mut read = RowsRead::NONE;
+    let mut number = 0;
+    for line in text[mark_size(text)..].split(|byte| *byte == b'\n') {
+        number += 1;
+        if let Err(fault) = read.take_line(form, number, line) {
+            return Err(FaultyLine {
+                line: number,
+                fault,
+            });
+        }
     }
-    read
+    Ok(read)
 }

@@ -1,8 +1,11 @@
 // The tables of jobs, of settings and of kernel records that rows stand for.
 ghost use Rattle.std.specs.Prelude.{◌≡◌, map, take};
-ghost use Rattle.records.specs.Jobs.{job_table};
-ghost use Rattle.configuration.specs.Settings.{setting_table};
-ghost use Rattle.kernel.specs.KernelRecords.{kernel_table};
+ghost use Rattle.records.specs.Limits.{most_jobs};
+ghost use Rattle.records.specs.Records.{table};
+ghost use Rattle.records.specs.Jobs.{blank_job};
+ghost use Rattle.configuration.specs.Settings.{blank_setting};
+ghost use Rattle.kernel.specs.KernelRecords.{blank_kernel};
+ghost use Rattle.lists.specs.declared.fields.Row.{Row};
 ghost use Rattle.lists.specs.Lists.{job_from, setting_from, kernel_from};
 
 use crate::fields::Row;
@@ -11,79 +14,78 @@ use kernel::priority::KernelPriority;
 use kernel::record::KernelRecord;
 use records::job::Job;
 
-fn job_from(row: Row) -> Job
-    ensures { result ≡ job_from row }
-{
-    Job {
-        id: (row.first % 256) as u8,
-        delay: (row.fifth % 256) as u8,
-        cost: row.second,
-        period: row.third,
-        deadline: row.fourth,
+// What a row stands for.
+pub trait FromRow: Copy {
+    ghost BLANK: { Self };
+
+    ghost from: { Row → Self };
+
+    // An entry of a table past its rows.
+    const BLANK: Self;
+
+    fn from_row(row: Row) -> Self
+        ensures { result ≡ from row };
+}
+
+impl FromRow for Job {
+    ghost BLANK = { blank_job };
+
+    ghost from = { job_from };
+
+    const BLANK: Job = Job::BLANK;
+
+    fn from_row(row: Row) -> Job {
+        Job {
+            id: (row.first % 256) as u8,
+            delay: (row.fifth % 256) as u8,
+            cost: row.second,
+            period: row.third,
+            deadline: row.fourth,
+        }
     }
 }
 
-fn setting_from(row: Row) -> Setting
-    ensures { result ≡ setting_from row }
-{
-    Setting {
-        id: (row.first % 256) as u8,
-        level: (row.second % 256) as u8,
-        policy: (row.third % 256) as u8,
-        quantum: (row.fourth % 256) as u8,
+impl FromRow for Setting {
+    ghost BLANK = { blank_setting };
+
+    ghost from = { setting_from };
+
+    const BLANK: Setting = Setting::BLANK;
+
+    fn from_row(row: Row) -> Setting {
+        Setting {
+            id: (row.first % 256) as u8,
+            level: (row.second % 256) as u8,
+            policy: (row.third % 256) as u8,
+            quantum: (row.fourth % 256) as u8,
+        }
     }
 }
 
-fn kernel_from(row: Row) -> KernelRecord
-    ensures { result ≡ kernel_from row }
-{
-    let priority = KernelPriority((row.third % 256) as u8);
-    KernelRecord {
-        id: (row.first % 256) as u8,
-        policy: (row.second % 256) as u8,
-        priority,
-        quantum: (row.fourth % 256) as u8,
+impl FromRow for KernelRecord {
+    ghost BLANK = { blank_kernel };
+
+    ghost from = { kernel_from };
+
+    const BLANK: KernelRecord = KernelRecord::BLANK;
+
+    fn from_row(row: Row) -> KernelRecord {
+        KernelRecord {
+            id: (row.first % 256) as u8,
+            policy: (row.second % 256) as u8,
+            priority: KernelPriority((row.third % 256) as u8),
+            quantum: (row.fourth % 256) as u8,
+        }
     }
 }
 
-// The jobs of the first n rows, which are not judged. No entry; for n past 8 it takes all 8 rows.
-pub fn jobs_from(rows: [Row; Job::MOST], n: usize) -> [Job; Job::MOST]
-    ensures { result ≡ job_table (map job_from (take n rows)) }
+// What the first n rows stand for, which is not judged. No entry; for n past 8 it takes all 8 rows.
+pub fn table_from<R: FromRow>(rows: [Row; Job::MOST], n: usize) -> [R; Job::MOST]
+    ensures { result ≡ table most_jobs R.BLANK (map R.from (take n rows)) }
 {
-    let count = Job::at_most(n);
-    let mut jobs = [Job::BLANK; Job::MOST];
-    let mut i = 0;
-    while i < count {
-        jobs[i] = job_from(rows[i]);
-        i += 1;
+    let mut table = [R::BLANK; Job::MOST];
+    for (i, row) in rows[..Job::at_most(n)].iter().enumerate() {
+        table[i] = R::from_row(*row);
     }
-    jobs
-}
-
-// The settings of the first n rows, which are not judged. No entry; for n past 8 it takes all 8 rows.
-pub fn settings_from(rows: [Row; Job::MOST], n: usize) -> [Setting; Job::MOST]
-    ensures { result ≡ setting_table (map setting_from (take n rows)) }
-{
-    let count = Job::at_most(n);
-    let mut settings = [Setting::BLANK; Job::MOST];
-    let mut i = 0;
-    while i < count {
-        settings[i] = setting_from(rows[i]);
-        i += 1;
-    }
-    settings
-}
-
-// The kernel records of the first n rows, which are not judged. No entry; for n past 8 it takes all 8 rows.
-pub fn kernels_from(rows: [Row; Job::MOST], n: usize) -> [KernelRecord; Job::MOST]
-    ensures { result ≡ kernel_table (map kernel_from (take n rows)) }
-{
-    let count = Job::at_most(n);
-    let mut kernels = [KernelRecord::BLANK; Job::MOST];
-    let mut i = 0;
-    while i < count {
-        kernels[i] = kernel_from(rows[i]);
-        i += 1;
-    }
-    kernels
+    table
 }

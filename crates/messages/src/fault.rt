@@ -34,12 +34,13 @@ fn fault_numbers(fault: Fault) -> [u32; 2]
     ensures { result ≡ table 2 0 (fault_numbers fault) }
 {
     match fault {
-        Fault::NotANumber(place) => [place as u32, 0],
-        Fault::TooLarge(place, limit) => [place as u32, limit as u32],
+        Fault::NotANumber(place) => [u32::from(place), 0],
+        Fault::TooLarge(place, limit) => [u32::from(place), u32::from(limit)],
         _ => [0; 2],
     }
 }
 
+// No Display: a template says each text byte by byte, and a Formatter would have to say them once more.
 fn put_message(output: &mut [u8], at: usize, fault: Fault) -> usize
     requires { at + 600 ≤ length output.old }
     ensures { Wrote 600 output.old output.new at result (message fault) }

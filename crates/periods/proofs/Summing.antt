@@ -4,12 +4,11 @@ use mathlib.Core.Bool.{Bool, true, ◌||◌, or-true, or-false, false≢true}
 use mathlib.Core.List.{List}
 use Prim.Native.Nat.{ℕ, ◌+◌, ◌*◌, ◌-◌, ◌^◌, ◌≤◌, ◌<◌}
 use native.Mathlib.Numerals.{add-one}
-use native.Mathlib.Decide.{ℕ_discrete, dec_le}
+use native.Mathlib.Decide.{dec_le}
 use native.Mathlib.Omega.{arith}
 use lib.Bits.{bit_or, or_shifted_r}
 use lib.Dec.{eqb}
-use lib.ListN.{length, get_or, set, replicate, get_or-replicate}
-use lib.Seq.{get_or-set_same, get_or-set_other}
+use lib.ListN.{get_or, replicate, get_or-replicate}
 use borrow.Author.Tests.{eq-eqb, ne_eqb}
 use Rattle.sets.specs.Sets.{places, has, insert}
 use Rattle.sets.proofs.Places.{over_zero, over-same, over-cut, over-in}
@@ -58,26 +57,6 @@ module _ (half period : ℕ) (before : List ℕ) where
   pub record Doubling (sums : List ℕ) (done : ℕ) : Type 0 where
     pub kept : (s : ℕ) → s < half → get_or sums s 0 ≡ get_or before s 0
     pub more : (s : ℕ) → s < done → get_or sums (half + s) 0 ≡ get_or before s 0 + period
-
-  pub doubling-none : Doubling before 0
-  doubling-none = record { kept = λ s l. refl; more = λ s l. absurd (omega arith) }
-
-  pub doubling-next : (sums : List ℕ) (done : ℕ) → Doubling sums done → done < half → half + half ≤ length sums
-      → Doubling (set sums (half + done) (get_or sums done 0 + period)) (done + 1)
-  doubling-next sums done D l fits = record {
-    kept = λ s b. get_or-set_other sums (half + done) s _ 0 (λ e. omega arith) ∙ D.kept s b;
-    more = λ s b. elim (ℕ_discrete s done) [
-      | yes e ↦
-          ap (λ (x : ℕ). get_or (set sums (half + done) (get_or sums done 0 + period)) (half + x) 0) e
-          ∙ get_or-set_same sums (half + done) (get_or sums done 0 + period) 0 (omega arith)
-          ∙ ap (λ (x : ℕ). x + period) (D.kept done l)
-          ∙ ap (λ (x : ℕ). get_or before x 0 + period) (sym e)
-      | no e ↦ get_or-set_other sums (half + done) (half + s) _ 0 (λ g. omega arith) ∙ D.more s (omega arith)
-    ];
-  }
-
-  pub doubling-all : (sums : List ℕ) (done : ℕ) → Doubling sums done → half ≤ done → Doubled half period before sums
-  doubling-all sums done D l = record { kept = D.kept; more = λ s b. D.more s (omega arith) }
 
 -- ---- the loop over the jobs
 

@@ -9,7 +9,8 @@ use crate::quanta::Question;
 use periods::sums::ALL;
 use records::job::Job;
 
-// The first set that can be taken, with its quanta, and the number of sets considered; the set is 0 where none can be taken.
+// The first set that can be taken, with its quanta, and the number of sets considered. Where none can be taken the set is the
+// empty one, 0, since that is what `chosen` of assignment's Plan gives there.
 #[derive(Clone, Copy)]
 pub struct Choice {
     pub set: u8,

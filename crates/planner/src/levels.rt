@@ -72,7 +72,8 @@ fn settings_with(
     next
 }
 
-// The bounds when a set takes a level with another above: its jobs get theirs, the others keep what they have.
+// The bounds when a set takes a level with another above: its jobs get theirs, the others keep what they have. The loop is that of
+// `settings_with` with other values; one function for both, with a closure for the value, would have more clauses than both have lines.
 fn bounds_with(
     question: &Question,
     bounds: [u16; Job::MOST],

@@ -23,7 +23,8 @@ fn runs_on(spare: u64, quantum: u8, others: u16, job: Job) -> bool
     0 < quantum && held < (job.cost as u64) * (quantum as u64 + others as u64) * WHOLE
 }
 
-// The cycles of so much work: the work divided by the quantum, rounded up; none without a quantum.
+// The cycles of so much work: the work divided by the quantum, rounded up; none without a quantum. Why it is not the rounding up of
+// `finishes` stands there, at `ceil_div`.
 fn cycles_of(work: u32, quantum: u8) -> u32
     requires { work < 2 ^ 31 }
     ensures { (result ≡ ceil_div work quantum) × (result ≤ work) }

@@ -1,7 +1,6 @@
 // What the arguments after the word ask for.
 use crate::{say, slices};
 use command::Argument;
-use command::span::Span;
 use std::env::FillError;
 use std::rt::Env;
 
@@ -71,13 +70,13 @@ fn with_range(asked: Asked, word: &[u8]) -> Asked {
     next.awaits = false;
     let span = command::span::read_span(word);
     match span {
-        Span::Between(low, high) => {
+        Some(span) => {
             next.ranged = true;
-            next.low = low;
-            next.high = high;
+            next.low = span.low;
+            next.high = span.high;
             next
         }
-        Span::Wrong => with_fault(
+        None => with_fault(
             next,
             b"--quanta takes the lowest and the highest quantum, up to 64, with a hyphen between, as 1-4\n",
         ),
@@ -89,13 +88,13 @@ fn with_priorities(asked: Asked, word: &[u8]) -> Asked {
     next.awaits = false;
     let span = command::span::read_span(word);
     match span {
-        Span::Between(lowest, highest) => {
+        Some(span) => {
             next.prioritised = true;
-            next.lowest = lowest;
-            next.highest = highest;
+            next.lowest = span.low;
+            next.highest = span.high;
             next
         }
-        Span::Wrong => with_fault(
+        None => with_fault(
             next,
             b"--priorities takes the kernel's lowest and highest priority, up to 255, with a hyphen between, as 1-99\n",
         ),

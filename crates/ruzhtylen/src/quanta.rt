@@ -4,13 +4,21 @@ use crate::source::Source;
 use command::span::Quanta;
 
 pub fn quanta_of(asked: Asked, list: Source) -> Quanta {
-    let option = Quanta {
-        low: asked.low,
-        high: asked.high,
+    let option = if asked.ranged {
+        Some(Quanta {
+            low: asked.low,
+            high: asked.high,
+        })
+    } else {
+        None
     };
-    let listed = Quanta {
-        low: list.low,
-        high: list.high,
+    let listed = if list.ranged {
+        Some(Quanta {
+            low: list.low,
+            high: list.high,
+        })
+    } else {
+        None
     };
-    command::span::choose(asked.ranged, option, list.ranged, listed)
+    command::span::choose(option, listed)
 }

@@ -5,7 +5,6 @@ ghost use Rattle.std.specs.Prelude.{◌≤◌};
 use crate::{files, say, slices};
 use lists::fault::Fault;
 use lists::fields::Form;
-use lists::rows::RowsAnswer;
 use messages::refusal::Naming;
 use records::job::Job;
 use std::rt::{Env, Files};
@@ -93,15 +92,20 @@ fn say_fault(rt: &impl Env, i: usize, line: usize, fault: Fault) {
 }
 
 fn of_text(rt: &impl Env, i: usize, form: Form, content: &[u8]) -> Source {
-    let read = lists::blocks::read_block(form, content);
-    let answer = read.answer;
-    if let RowsAnswer::Faulty(line, fault) = answer {
-        say_fault(rt, i, line, fault);
-        return failed();
-    }
+    let read = match lists::blocks::read_block(form, content) {
+        Ok(read) => read,
+        Err(faulty) => {
+            say_fault(rt, i, faulty.line, faulty.fault);
+            return failed();
+        }
+    };
     let block = read.bytes;
     let at = read.at;
     let size = read.size;
+    let (ranged, low, high) = match read.range {
+        Some(range) => (true, (range.low % 256) as u8, (range.high % 256) as u8),
+        None => (false, 0, 0),
+    };
     Source {
         ok: true,
         bytes: first_bytes(&block),
@@ -109,9 +113,9 @@ fn of_text(rt: &impl Env, i: usize, form: Form, content: &[u8]) -> Source {
         size: size as u32,
         naming: Naming::Line,
         lines: line_numbers(at),
-        ranged: read.ranged,
-        low: (read.low % 256) as u8,
-        high: (read.high % 256) as u8,
+        ranged,
+        low,
+        high,
     }
 }
 

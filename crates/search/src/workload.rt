@@ -18,7 +18,7 @@ pub struct Workload {
     pub(crate) utilisations: [u32; Job::MOST],
     // Jobs of which none is served alone below the others: such a job needs no second bound where the others are above it or beside it.
     pub(crate) unassignable: u8,
-    // The response of which the first instance is sought; 0 where the bound is.
+    // The response of which the first instance is sought; 0 where the bound is, as `is_sought` (runs/specs/Runs) and callers of `run` have it.
     pub(crate) sought: u16,
 }
 

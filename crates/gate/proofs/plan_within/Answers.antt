@@ -1,4 +1,5 @@
 use mathlib.Core.Path.{◌∙◌}
+use Rattle.std.proofs.lemmas.Result.{err_from_is_err_and}
 use Rattle.records.specs.Refusals.{Tests}
 use Rattle.records.specs.Jobs.{job_count}
 use Rattle.limits.specs.Boxes.{limit_tests}
@@ -12,16 +13,18 @@ use Rattle.gate.proofs.plan_within.Goals.{Start}
 abbrev more : Start → Tests
 more s = limit_tests s.args.limits (job_count s.args.jobs.now) s.args.high
 
-pub returns-in_default : goal.returns-in_default
+pub returns-in_err-call : goal.returns-in_err-call
 unfolding plan_within
-returns-in_default c =
+returns-in_err-call c =
     let a = c.args in
-    plan-promise a.limits a.jobs.now a.low a.high a.configuration.now a.bounds.now _
-    (put-turned a.jobs.now a.low a.high (more (goal.at.returns-in_default c).Start) _ c.read_call-call.ensures a.configuration.now a.bounds.now _ _ c.in_default.is c.refusal_of.ensures)
+    let p = err_from_is_err_and c.from_residual.result c.from_residual.ensures.1 in
+    rw (p.1, p.2)
+    (plan-promise a.limits a.jobs.now a.low a.high a.configuration.now a.bounds.now _
+    (put-turned a.jobs.now a.low a.high (more (goal.at.returns-in_err-call c).Start) c.read_call.result c.read_call.ensures a.configuration.now a.bounds.now _ c.in_err-call.was))
 
 pub returns : goal.returns
 unfolding plan_within
 returns c =
     let a = c.args in
     plan-promise a.limits a.jobs.now a.low a.high a.configuration.now a.bounds.now _
-    (c.put_plan.ensures ∙ put_on a.jobs.now a.low a.high (more (goal.at.returns c).Start) _ c.read_call-call.ensures a.configuration.now a.bounds.now _ c.in-Count.is)
+    (c.put_plan.ensures ∙ put_on a.jobs.now a.low a.high (more (goal.at.returns c).Start) c.read_call.result c.read_call.ensures a.configuration.now a.bounds.now _ c.in_ok-call.was)

@@ -20,10 +20,6 @@ small s =
     let o : Fits w16 a.others = search rules in
     mul-le-mul {n₂ = 4294967295} {m₂ = 65535} (omega (arith, ceil-le a.work a.quantum)) (omega arith)
 
-pub overflow_mul-result : goal.overflow_mul-result
-unfolding ceil_div
-overflow_mul-result c = omega (arith, small (goal.at.overflow_mul-result c).Start)
-
 pub returns : goal.returns
 unfolding ceil_div
 returns c = (refl, omega (arith, small (goal.at.returns c).Start))

@@ -1,11 +1,9 @@
-use Prim.Native.Nat.{ℕ, ◌*◌}
-use mathlib.Core.Path.{◌≡◌, ap, ◌∙◌}
-use mathlib.Core.List.{◌++◌}
+use mathlib.Core.Path.{◌≡◌}
 use native.Mathlib.Omega.{arith}
-use lib.ListN.{length, drop, take}
+use lib.ListN.{length, take}
 use lib.Seq.{get_or-take, length-take-le}
 use Rattle.records.specs.Records.{flat}
-use Rattle.records.proofs.FixedWidth.{write-next, written_at}
+use Rattle.records.proofs.FixedWidth.{write-next}
 use Rattle.breakdown.specs.Breakdowns.{parts_size, parts_bytes}
 use Rattle.response.specs.Breakdown.{no_parts}
 use Rattle.breakdown.proofs.Holding.{parts-width}
@@ -28,12 +26,3 @@ loop-i-preserved c =
     let put = c.put_parts in
     let own = get_or-take a.n a.table l.i no_parts (omega (arith, size (goal.at.loop-i-preserved c).Start)) in
     (search rules, write-next parts_bytes parts_size parts-width l.i a.table no_parts a.output.now l.output put.new.output (search rules) l.invariant.1 (rw (← own) put.ensures))
-
-pub returns : goal.returns
-returns c =
-    let l = c.loop-i in
-    let a = c.args in
-    let e : l.i ≡ a.n = omega (arith, size (goal.at.returns c).Start) in
-    l.invariant.1
-    ∙ ap (λ (k : ℕ). flat parts_bytes (take k a.table) ++ drop (parts_size * k) a.output.now) e
-    ∙ written_at parts_size parts_bytes (take a.n a.table) a.n a.output.now (size (goal.at.returns c).Start)

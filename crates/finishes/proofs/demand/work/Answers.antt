@@ -12,9 +12,6 @@ use Rattle.finishes.proofs.demand.work.Goals.{After-ceil_div}
 quotient : (c : After-ceil_div) → c.ceil_div.result < 2 ^ 23
 quotient c = let h : Fits w8 c.args.job.delay = search rules in omega (arith, c.ceil_div.ensures.1, c.requires, h)
 
-pub overflow_mul-result : goal.overflow_mul-result
-overflow_mul-result c = omega (arith, product_lt c.ceil_div.result c.args.job.cost (quotient (goal.at.overflow_mul-result c).After-ceil_div) (search rules))
-
 pub returns : goal.returns
 unfolding work
 returns c =

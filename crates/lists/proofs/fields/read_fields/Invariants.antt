@@ -1,4 +1,4 @@
-use Prim.Native.Nat.{ℕ, ◌-◌, ◌≤◌}
+use Prim.Native.Nat.{ℕ, ◌≤◌}
 use mathlib.Core.Path.{◌≡◌}
 use mathlib.Core.List.{List}
 use lib.ListN.{length, drop}
@@ -8,8 +8,5 @@ use Rattle.lists.specs.Rows.{limits_of, fields_from, read_fields}
 use Rattle.lists.proofs.fields.read_fields.Given as goal
 
 abbrev pub invariant-loop-i : goal.invariant-loop-i
-invariant-loop-i l = (l.i ≤ length (limits_of l.form)) × (l.at ≤ length l.content)
+invariant-loop-i l = (l.at ≤ length l.content)
     × ((seen : List ℕ) × (length seen ≡ l.i) × (l.numbers ≡ table 5 0 seen) × (fields_from l.form seen (drop l.i (limits_of l.form)) (words (drop l.at l.content)) ≡ read_fields l.form (words (drop l.from l.content))))
-
-abbrev pub decreases-loop-i : goal.decreases-loop-i
-decreases-loop-i l = length (limits_of l.form) - l.i

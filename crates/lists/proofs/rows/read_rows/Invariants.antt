@@ -1,12 +1,12 @@
-use Prim.Native.Nat.{◌+◌, ◌-◌, ◌≤◌}
+use Prim.Native.Nat.{◌+◌, ◌≤◌}
 use mathlib.Core.Path.{◌≡◌}
-use lib.ListN.{length, drop}
-use Rattle.lists.specs.Words.{lines}
-use Rattle.lists.specs.Rows.{read_lines, read_text, rows_outcome}
+use mathlib.Core.Bool.{cond}
+use lib.ListN.{length}
+use Rattle.lists.specs.Rows.{given, read_lines, read_text, rows_in}
+use Rattle.lists.proofs.RowByRow.{lines_left}
 use Rattle.lists.proofs.rows.read_rows.Given as goal
 
-abbrev pub invariant-loop-place : goal.invariant-loop-place
-invariant-loop-place l = (l.place ≤ length l.text) × (l.passed ≤ l.place) × (read_lines l.form (l.passed + 1) (rows_outcome l.read) (lines (drop l.place l.text)) ≡ read_text l.form l.text)
-
-abbrev pub decreases-loop-place : goal.decreases-loop-place
-decreases-loop-place l = length l.text - l.place
+-- The lines that are left come to what the text does.
+abbrev pub invariant-loop-line : goal.invariant-loop-line
+invariant-loop-line l = (l.number + cond l.line-iterator.done 0 (length l.line-iterator.rest.now + 1) ≤ length l.text + 1)
+    × (read_lines l.form (l.number + 1) (given (rows_in l.read)) (lines_left l.line-iterator.done l.line-iterator.rest.now) ≡ read_text l.form l.text)

@@ -1,28 +1,14 @@
-use Prim.Native.Nat.{◌<◌, ◌≤◌}
-use mathlib.Core.Path.{refl, sym, ap, ◌∙◌}
-use native.Mathlib.Omega.{arith}
-use lib.ListN.{length, drop_of_length-le}
+use Rattle.std.proofs.Common.{◌≡◌, ℕ, ◌+◌, List, length, drop, arith, ap, ◌∙◌}
+use Rattle.std.proofs.lemmas.Grind.{common_steps}
+use Rattle.std.specs.Prelude.{Option, unwrap_or}
 use Rattle.lists.specs.Words.{is_mark, before}
-use Rattle.lists.proofs.Parsing.{before-hit, before-miss}
+use Rattle.lists.proofs.Parsing.{before-position}
 use Rattle.lists.proofs.words.find.Goals as goal
 
-pub loop-i-init : goal.loop-i-init
-loop-i-init c = refl
-
-pub returns-then-is_mark : goal.returns-then-is_mark
-returns-then-is_mark c =
-    let a = c.args in
-    let h : c.loop-i.i < length a.text.now = omega arith in
-    omega (arith, c.loop-i.invariant, ap length (before-hit (is_mark a.mark) a.text.now c.loop-i.i h (sym c.is_mark.ensures ∙ c.if-is_mark.true)))
-
-pub loop-i-preserved : goal.loop-i-preserved
-loop-i-preserved c =
-    let a = c.args in
-    let h : c.loop-i.i < length a.text.now = omega arith in
-    omega (arith, c.loop-i.invariant, ap length (before-miss (is_mark a.mark) a.text.now c.loop-i.i h (sym c.is_mark.ensures ∙ c.if-is_mark.false)))
-
-pub returns : goal.returns
-returns c =
-    let a = c.args in
-    let h : length a.text.now ≤ c.loop-i.i = omega arith in
-    omega (arith, c.loop-i.invariant, ap (λ (s : _). length (before (is_mark a.mark) s)) (drop_of_length-le a.text.now h))
+pub returns-in-Some : goal.returns-in-Some
+returns-in-Some c =
+    let found = c.in-Some.ensures.lookup.0.2 in
+    let rest : c.in-Some.rest.now ≡ drop c.args.from c.args.text.now = grind (arith, common_steps) in
+    let stop = is_mark c.args.mark in
+    ap (λ (k : ℕ). c.args.from + k)
+    (c.unwrap_or.ensures ∙ ap (λ (o : Option ℕ). unwrap_or o (length c.in-Some.rest.now)) c.first.ensures ∙ before-position stop c.in-Some.rest.now ∙ ap (λ (s : List ℕ). length (before stop s)) rest)

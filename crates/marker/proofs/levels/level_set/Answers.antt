@@ -1,9 +1,8 @@
-use Prim.Native.Nat.{ℕ, min}
-use mathlib.Core.Path.{◌≡◌, ap, subst, ◌∙◌}
+use mathlib.Core.Path.{◌≡◌, ap, ◌∙◌}
 use native.Mathlib.Omega.{arith}
 use lib.ListN.{length, take}
 use lib.Seq.{get_or-take, length-take-le}
-use Rattle.sets.specs.Sets.{Set, Collects}
+use Rattle.sets.specs.Sets.{Set}
 use Rattle.sets.proofs.Members.{collect-none, collect-in, collect-out}
 use Rattle.records.specs.Limits.{most_jobs}
 use Rattle.configuration.specs.declared.setting.Setting.{Setting}
@@ -31,10 +30,3 @@ loop-i-preserved c =
     let own = get_or-take count a.settings l.i blank_setting (omega (arith, size (goal.at.loop-i-preserved c).After-at_most-count)) in
     let test : c.stands.result ≡ set l.i = c.stands.ensures ∙ ap (λ (s : Setting). standing a.relation s.level a.level) own in
     elim c.if-stands.branch [ then-stands w ↦ collect-in l.i set l.set l.invariant test (omega (arith, size (goal.at.loop-i-preserved c).After-at_most-count, c.at_most-count.ensures)) w.if-stands.true c.if-stands.set (w.set-is ∙ w.insert-set.ensures) | else-stands w ↦ collect-out l.i set l.set l.invariant test w.if-stands.false c.if-stands.set w.set-is ]
-
-pub returns : goal.returns
-returns c =
-    let l = c.loop-i in
-    let a = c.args in
-    let e : l.i ≡ min a.n most_jobs = omega (arith, size (goal.at.returns c).After-at_most-count, c.at_most-count.ensures) in
-    subst (λ (k : ℕ). Collects k (stands a.relation a.settings a.level) l.set) e l.invariant

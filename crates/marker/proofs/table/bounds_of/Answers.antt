@@ -1,5 +1,5 @@
-use Prim.Native.Nat.{ℕ, ◌≤◌}
-use mathlib.Core.Path.{◌≡◌, refl, sym, ap, ap₂, ◌∙◌}
+use Prim.Native.Nat.{ℕ}
+use mathlib.Core.Path.{◌≡◌, refl, ap, ap₂, ◌∙◌}
 use mathlib.Core.List.{List}
 use native.Mathlib.Omega.{arith}
 use lib.ListN.{length, take}
@@ -9,7 +9,6 @@ use Rattle.records.specs.Limits.{most_jobs}
 use Rattle.records.specs.Records.{table}
 use Rattle.records.specs.declared.job.Job.{Job}
 use Rattle.records.proofs.FixedWidth.{list-next}
-use Rattle.search.specs.Search.{plain_workload}
 use Rattle.search.specs.declared.workload.Workload.{Workload}
 use Rattle.marker.specs.Bounds.{bound_at}
 use Rattle.marker.proofs.Configured.{bounds-table}
@@ -31,11 +30,6 @@ module _ (c : After-plain-workload) where
 pub loop-k-init : goal.loop-k-init
 unfolding list_of
 loop-k-init c = refl
-
-pub bound_of-requires : goal.bound_of-requires
-bound_of-requires c =
-    let few : count (goal.at.bound_of-requires c).After-plain-workload ≤ most_jobs = omega (arith, c.at_most-count.ensures) in
-    (few, search rules, c.plain-workload.ensures ∙ ap plain_workload (sym (jobs-are (goal.at.bound_of-requires c).After-plain-workload)))
 
 pub loop-k-preserved : goal.loop-k-preserved
 loop-k-preserved c =

@@ -1,10 +1,8 @@
-use Prim.Native.Nat.{ℕ, suc, ◌+◌, ◌-◌, ◌*◌, ◌≤◌, ◌<◌}
+use Prim.Native.Nat.{ℕ, suc, ◌+◌, ◌-◌, ◌*◌, ◌<◌}
 use mathlib.Core.Path.{◌≡◌, refl, sym, ◌∙◌, ap, ap₂}
 use mathlib.Core.List.{List}
 use native.Mathlib.Omega.{arith}
 use lib.ListN.{length, get_or}
-use mir.Val.{Fits}
-use mir.Syntax.{w16}
 use borrow.Author.Rules.{rules}
 use Rattle.sets.specs.Sets.{has}
 use Rattle.records.specs.Limits.{most_jobs}
@@ -14,7 +12,7 @@ use Rattle.response.specs.Demand.{ceil_div, other_quanta, interference, most_ins
 use Rattle.response.specs.Breakdown.{reaching, reaching_finish, parts_at, first_parts}
 use Rattle.finishes.proofs.Climbing.{work-within}
 use Rattle.search.specs.declared.workload.Workload.{Workload}
-use Rattle.parts.proofs.Reached.{instances-fit, count-found, here-within, finish-follows, Found, first_found}
+use Rattle.parts.proofs.Reached.{count-found, here-within, finish-follows, Found, first_found}
 use Rattle.parts.proofs.Layered.first_parts.Goals as goal
 use Rattle.parts.proofs.Layered.first_parts.Goals.{After-run-count, After-work_by-from_above}
 
@@ -62,12 +60,6 @@ module _ (c : After-run-count) where
 
 pub finish_of-finish-requires : goal.finish_of-finish-requires
 finish_of-finish-requires c = (omega (arith, counted (goal.at.finish_of-finish-requires c).After-run-count), omega (arith, counted (goal.at.finish_of-finish-requires c).After-run-count, within (goal.at.finish_of-finish-requires c).After-run-count), omega (arith, follows (goal.at.finish_of-finish-requires c).After-run-count))
-
-own-fits : (c : After-run-count) → Fits w16 (entry c).cost → count c * (entry c).cost ≤ 64 * 65535
-own-fits c h = instances-fit 64 (count c) (entry c).cost (omega (arith, counted c, within c)) (omega arith)
-
-pub overflow_mul-work : goal.overflow_mul-work
-overflow_mul-work c = omega (arith, own-fits (goal.at.overflow_mul-work c).After-run-count (search rules))
 
 -- After the sums: what the layer and the jobs above add.
 module _ (c : After-work_by-from_above) where

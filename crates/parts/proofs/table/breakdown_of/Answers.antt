@@ -1,5 +1,5 @@
 use Prim.Native.Nat.{ℕ}
-use mathlib.Core.Path.{◌≡◌, refl, sym, ap, ap₂, ◌∙◌}
+use mathlib.Core.Path.{◌≡◌, refl, ap, ap₂, ◌∙◌}
 use mathlib.Core.List.{List}
 use native.Mathlib.Omega.{arith}
 use lib.ListN.{length, take}
@@ -10,7 +10,6 @@ use Rattle.records.specs.Records.{table}
 use Rattle.records.proofs.FixedWidth.{list-next}
 use Rattle.records.specs.declared.job.Job.{Job}
 use Rattle.response.specs.Breakdown.{no_parts}
-use Rattle.search.specs.Search.{plain_workload}
 use Rattle.search.specs.declared.workload.Workload.{Workload}
 use Rattle.parts.specs.Breakdowns.{parts_in}
 use Rattle.parts.proofs.Placed.{breakdown-table}
@@ -32,10 +31,6 @@ module _ (c : After-plain-workload) where
 pub loop-k-init : goal.loop-k-init
 unfolding list_of
 loop-k-init c = refl
-
-pub parts_in-requires : goal.parts_in-requires
-parts_in-requires c =
-    (omega (arith, c.at_most-count.ensures), omega arith, c.plain-workload.ensures ∙ ap plain_workload (sym (jobs-are (goal.at.parts_in-requires c).After-plain-workload)))
 
 pub loop-k-preserved : goal.loop-k-preserved
 loop-k-preserved c =

@@ -20,9 +20,6 @@ use borrow.Author.Rules.{rules}
 use Rattle.planner.proofs.choice.choose.Goals as goal
 use Rattle.planner.proofs.choice.choose.Goals.{After-first_of-alone, After-first_of-choice, After-subsets_of-found, In-loop-size}
 
-pub first_of-alone-requires : goal.first_of-alone-requires
-first_of-alone-requires c = (c.requires.0, c.requires.1, c.requires.2.few)
-
 -- The sets of one job.
 module _ (c : After-first_of-alone) where
   abbrev question : Question
@@ -67,16 +64,6 @@ module _ (c : After-subsets_of-found) where
   fits =
       let long : length c.subsets_of-found.result.sets ≡ most_of_size = search rules in
       omega (arith, c.subsets_of-found.ensures.few)
-
-pub slice_bounds-tried-end : goal.slice_bounds-tried-end
-slice_bounds-tried-end c = fits (goal.at.slice_bounds-tried-end c).After-subsets_of-found
-
-pub slice_bounds-first_of-end : goal.slice_bounds-first_of-end
-slice_bounds-first_of-end c = sym (length-take-le (count (goal.at.slice_bounds-first_of-end c).After-subsets_of-found) c.subsets_of-found.result.sets (fits (goal.at.slice_bounds-first_of-end c).After-subsets_of-found))
-
-pub first_of-choice-requires : goal.first_of-choice-requires
-first_of-choice-requires c =
-    (c.requires.0, c.requires.1, omega (arith, length-take-le (count (goal.at.first_of-choice-requires c).After-subsets_of-found) c.subsets_of-found.result.sets (fits (goal.at.first_of-choice-requires c).After-subsets_of-found), c.subsets_of-found.ensures.few))
 
 -- What was found among the sets of that size.
 module _ (c : After-first_of-choice) where

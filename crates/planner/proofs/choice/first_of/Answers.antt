@@ -6,17 +6,12 @@ use lib.ListN.{get_or, take}
 use Rattle.sets.specs.Order.{subsets}
 use Rattle.sets.proofs.Parts.{within-le}
 use Rattle.sets.proofs.Walk.{Step, walk-found, walk_ends}
-use Rattle.sets.proofs.Searching.{reached-none, reached-end, reached-taken, reached-next}
+use Rattle.sets.proofs.Searching.{reached-end, reached-taken, reached-next}
 use Rattle.assignment.specs.Plan.{is_found}
 use Rattle.planner.specs.Questions.{finds}
 use Rattle.planner.proofs.choice.first_of.Invariants.{takeable}
 use Rattle.planner.proofs.choice.first_of.Goals as goal
 use Rattle.planner.proofs.choice.first_of.Goals.{In-Some}
-
-pub loop-at-init : goal.loop-at-init
-loop-at-init c =
-    let a = c.args in
-    (reached-none (takeable a.question.now a.left) (subsets a.left a.sequence.now), omega arith, omega arith)
 
 -- The step of the walk to a set.
 step : (c : In-Some) → Step c.args.sequence.now c.args.left c.loop-at.place c.in-Some.at
@@ -29,10 +24,6 @@ pub quanta_for-found-requires : goal.quanta_for-found-requires
 quanta_for-found-requires c =
     (c.requires.0, c.requires.1, omega (arith, within-le (get_or c.args.sequence.now c.in-Some.at 0) c.args.left (step (goal.at.quanta_for-found-requires c).In-Some).inside, c.requires.1))
 
-pub overflow_add-considered : goal.overflow_add-considered
-overflow_add-considered c =
-    omega (arith, c.loop-at.invariant.1, c.loop-at.invariant.2, c.requires.2)
-
 pub returns-in-Some-found : goal.returns-in-Some-found
 returns-in-Some-found c =
     let a = c.args in
@@ -40,10 +31,6 @@ returns-in-Some-found c =
     let f : finds a.question.now a.left (get_or a.sequence.now c.in-Some.at 0) ≡ some (take a.question.now.n c.in-Some-found.quanta) = sym c.in-Some-found.ensures in
     let A = reached-taken (takeable a.question.now a.left) (subsets a.left a.sequence.now) _ c.loop-at.missed c.loop-at.invariant.0 _ _ S.first (ap is_found f) in
     record { set = sym A.first; quanta = λ p. f; count = sym A.count; few = omega (arith, c.loop-at.invariant.1, S.later, S.before) }
-
-pub overflow_add-missed : goal.overflow_add-missed
-overflow_add-missed c =
-    omega (arith, c.loop-at.invariant.1, c.loop-at.invariant.2, c.requires.2)
 
 pub overflow_add-place : goal.overflow_add-place
 overflow_add-place c =

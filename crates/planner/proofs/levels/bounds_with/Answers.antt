@@ -6,7 +6,6 @@ use lib.ListN.{get_or}
 use Rattle.sets.specs.Places.{list_of}
 use Rattle.sets.specs.Sets.{has}
 use Rattle.records.specs.Limits.{most_jobs}
-use Rattle.records.specs.Records.{table}
 use Rattle.records.proofs.FixedWidth.{list-next}
 use Rattle.response.specs.Demand.{bound}
 use Rattle.planner.specs.Questions.{listed}
@@ -29,10 +28,3 @@ loop-k-preserved c =
     let value : c.if-contains.next ≡ f l.k = elim c.if-contains.branch [ then-contains w ↦ w.next-is ∙ w.bound.ensures ∙ asked-bound a.question.now a.set a.above c.requires a.quanta l.k (omega arith) ∙ sym (ap given (sym test ∙ w.if-contains.true)) | else-contains w ↦ w.next-is ∙ sym (ap given (sym test ∙ w.if-contains.false)) ]
     in
     list-next f most_jobs l.k 0 l.next c.if-contains.next (omega arith) l.invariant value
-
-pub returns : goal.returns
-returns c =
-    let l = c.loop-k in
-    let a = c.args in
-    let e : l.k ≡ a.question.now.n = omega arith in
-    l.invariant ∙ ap (λ (k : ℕ). table most_jobs 0 (list_of (next-at a.question.now a.bounds a.set a.above a.quanta) k)) e

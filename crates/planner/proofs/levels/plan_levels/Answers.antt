@@ -7,7 +7,6 @@ use Rattle.planner.specs.Questions.{listed}
 use Rattle.planner.specs.Stages.{most_sets, progress_of, stage_of}
 use mathlib.Core.Path.{◌≡◌, refl, ap, subst, ◌∙◌}
 use native.Mathlib.Omega.{arith}
-use Rattle.planner.specs.declared.levels.Progress.{Progress}
 use Rattle.planner.proofs.LevelByLevel.{Reaches, reaches-start, reaches_end, reaches-room, reaches-inside, reaches-stop, reaches-next}
 use Rattle.planner.proofs.levels.plan_levels.Goals as goal
 use Rattle.planner.proofs.levels.plan_levels.Goals.{In-loop-level, Start}
@@ -27,11 +26,6 @@ below c =
     let e : l.level ≡ suc (l.level - 1) = omega (arith, c.loop-level-test.true) in
     subst (λ (m : ℕ). Reaches c.args.question (by_periods (listed c.args.question)) m l.progress) e l.invariant
 
-pub choose-choice-requires : goal.choose-choice-requires
-choose-choice-requires c =
-    let R = c.loop-level.invariant in
-    (c.requires.0, omega (arith, R.less, ap (λ (p : Progress). p.left) R.shows), c.requires.1)
-
 pub overflow_add-progress : goal.overflow_add-progress
 overflow_add-progress c =
     omega (arith, reaches-room c.args.question c.requires.0 (by_periods (listed c.args.question)) (short (goal.at.overflow_add-progress c).Start) (c.loop-level.level - 1) c.loop-level.progress (below (goal.at.overflow_add-progress c).In-loop-level) c.choose-choice.result c.choose-choice.ensures)
@@ -39,10 +33,6 @@ overflow_add-progress c =
 pub returns-then-choice-eq0 : goal.returns-then-choice-eq0
 returns-then-choice-eq0 c =
     reaches-stop c.args.question c.requires.0 (by_periods (listed c.args.question)) (short (goal.at.returns-then-choice-eq0 c).Start) (c.loop-level.level - 1) c.loop-level.progress (below (goal.at.returns-then-choice-eq0 c).In-loop-level) c.choose-choice.result c.choose-choice.ensures c.if-choice-eq0.true _ refl
-
-pub overflow_cast-level : goal.overflow_cast-level
-overflow_cast-level c =
-    omega (arith, c.requires.0.few)
 
 pub place-progress-requires : goal.place-progress-requires
 place-progress-requires c =

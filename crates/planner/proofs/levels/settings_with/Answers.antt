@@ -9,7 +9,7 @@ use Rattle.records.specs.Limits.{most_jobs}
 use Rattle.records.specs.Jobs.{job_at}
 use Rattle.records.proofs.FixedWidth.{list-next}
 use Rattle.configuration.specs.declared.setting.Setting.{Setting}
-use Rattle.configuration.specs.Settings.{blank_setting, setting_at, setting_table}
+use Rattle.configuration.specs.Settings.{blank_setting, setting_at}
 use Rattle.assignment.specs.Plan.{setting_in}
 use Rattle.planner.proofs.levels.settings_with.Invariants.{next-at}
 use Rattle.planner.proofs.levels.settings_with.Goals as goal
@@ -31,10 +31,3 @@ loop-k-preserved c =
     let value : c.if-contains.next ≡ f l.k = elim c.if-contains.branch [ then-contains w ↦ w.next-is ∙ w.setting_in.ensures ∙ ap (λ (m : ℕ). setting_in id a.level m quantum) c.size-size.ensures ∙ sym (ap given (sym test ∙ w.if-contains.true)) | else-contains w ↦ w.next-is ∙ sym (ap given (sym test ∙ w.if-contains.false)) ]
     in
     list-next f most_jobs l.k blank_setting l.next c.if-contains.next (omega arith) l.invariant value
-
-pub returns : goal.returns
-returns c =
-    let l = c.loop-k in
-    let a = c.args in
-    let e : l.k ≡ a.question.now.n = omega arith in
-    l.invariant ∙ ap (λ (k : ℕ). setting_table (list_of (next-at a.question.now a.settings a.level a.set a.quanta) k)) e

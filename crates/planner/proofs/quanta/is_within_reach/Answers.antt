@@ -1,6 +1,5 @@
 use Prim.Native.Nat.{ℕ, ◌<◌}
 use mathlib.Core.Path.{◌≡◌, sym, ap, ◌∙◌}
-use mathlib.Core.Bool.{false≢true}
 use mathlib.Core.List.{List}
 use Rattle.records.specs.Limits.{most_jobs}
 use native.Mathlib.Omega.{arith}
@@ -28,6 +27,3 @@ returns-then-bound-eq0 c =
     (get_or-set_same a.quanta k a.question.now.range.high 0 (omega (arith, A.few)))
     (λ i d. get_or-set_other a.quanta k i a.question.now.range.high 0 d ∙ ap (λ (v : List ℕ). get_or v i 0) c.requires.1 ∙ lowest-at a.question.now a.layer a.above L a.question.now.range.low i)
     (λ p. omega (arith, is, c.if-bound-eq0.true))
-
-pub returns : goal.returns
-returns c = λ e. absurd (false≢true (sym e))

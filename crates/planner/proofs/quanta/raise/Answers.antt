@@ -1,13 +1,12 @@
-use Prim.Native.Nat.{◌+◌, ◌<◌}
+use Prim.Native.Nat.{◌<◌}
 use mathlib.Core.List.{List}
 use Rattle.records.specs.declared.job.Job.{Job}
 use mathlib.Core.Path.{◌≡◌, ◌∙◌}
 use native.Mathlib.Omega.{arith}
-use lib.ListN.{length, get_or}
-use lib.Seq.{get_or-set_same}
+use lib.ListN.{length}
 use Rattle.sets.specs.Sets.{has}
 use Rattle.response.specs.Demand.{bound}
-use Rattle.assignment.proofs.Settling.{raised-none, raised-next, past-highest}
+use Rattle.assignment.proofs.Settling.{raised-next, past-highest}
 use Rattle.planner.specs.Questions.{listed, Accepted}
 use Rattle.planner.proofs.Asked.{listed-length, listed-costs, asked-bound}
 use Rattle.planner.proofs.quanta.raise.Goals as goal
@@ -31,27 +30,12 @@ found c =
     let a = c.args in
     c.bound.ensures ∙ asked-bound a.question.now a.layer a.above c.requires.0 c.loop-workload.now a.job c.requires.2
 
-pub loop-workload-init : goal.loop-workload-init
-loop-workload-init c =
-    let a = c.args in
-    let s = (goal.at.loop-workload-init c).Start in
-    raised-none (jobs s) (listed-costs a.question.now (accepted s)) a.question.now.range.low a.question.now.range.high (accepted s).low (has a.layer) (has a.above) a.job a.quanta c.requires.1
-
-pub bounds-now-job : goal.bounds-now-job
-bounds-now-job c = omega (arith, c.requires.2, (accepted (goal.at.bounds-now-job c).Start).few)
-
 pub returns-then-range-now : goal.returns-then-range-now
 returns-then-range-now c =
     let a = c.args in
     let s = (goal.at.returns-then-range-now c).Start in
     past-highest (jobs s) (listed-costs a.question.now (accepted s)) a.question.now.range.low a.question.now.range.high (accepted s).low (has a.layer) (has a.above) a.job (place s) c.requires.3
     c.loop-workload.now c.loop-workload.invariant.standing (λ p. omega (arith, found (goal.at.returns-then-range-now c).After-bound, c.loop-workload-test.true)) c.if-range-now.true
-
-pub loop-workload-smaller : goal.loop-workload-smaller
-loop-workload-smaller c =
-    let a = c.args in
-    let e = get_or-set_same c.loop-workload.now a.job (get_or c.loop-workload.now a.job 0 + 1) 0 (omega (arith, place (goal.at.loop-workload-smaller c).Start, c.loop-workload.invariant.standing.long)) in
-    omega (arith, e, c.if-range-now.false)
 
 pub loop-workload-preserved : goal.loop-workload-preserved
 loop-workload-preserved c =
