@@ -12,7 +12,7 @@ use Rattle.records.specs.Refusals.{Answer, given, refused, number, outcome, coun
 use Rattle.records.specs.Records.{word_bytes, table, room_tests, write_records}
 use Rattle.records.specs.declared.job.Job.{Job}
 use Rattle.records.specs.declared.refusal.Refusal.{Refusal}
-use Rattle.records.proofs.FixedWidth.{cut-length, take-table, wrote-turned, wrote-done}
+use Rattle.records.proofs.FixedWidth.{cut-length, take-table, wrote-turned, wrote-given}
 use Rattle.configuration.specs.declared.setting.Setting.{Setting}
 use Rattle.marker.specs.Bounds.{bound_at, bounds_of, all_served}
 use Rattle.marker.specs.Marks.{bound_size, marked, put_bounds}
@@ -49,7 +49,7 @@ module _ (jobs : List Job) (settings : List Setting) (n count : ℕ) (jobs-size 
       bounds-turned refusal e = wrote-turned bound_size word_bytes own output wrote after saw refusal e ∙ roomed
 
       pub bounds-done : (m : ℕ) → wrote ≡ Ok m → (given tt, after) ≡ put_bounds (take n jobs) (take n settings) output
-      bounds-done m e = wrote-done bound_size word_bytes own output wrote after saw m e ∙ roomed
+      bounds-done m e = wrote-given bound_size word_bytes own output wrote after saw m e ∙ roomed
 
     pub bounds-served : every (λ i. ltb 0 (get_or bounds i 0)) count ≡ all_served (take n jobs) (take n settings)
     bounds-served =

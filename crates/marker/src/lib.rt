@@ -48,6 +48,10 @@ pub fn mark(
 ) -> Result<bool, Refusal>
     ensures { (mark_answer result, output.new) ≡ mark_outcome jobs.now low high configuration.now output.old }
 {
-    let call = records::call::read_call(jobs, low, high)?;
+    // 01 asks for this form here: let .. else takes the call, with its count of jobs, out of the reader's answer, and else returns its refusal.
+    let asked = records::call::read_call(jobs, low, high);
+    let Ok(call) = asked else {
+        return asked.and(Ok(false));
+    };
     mark_hand_in(call, configuration, &mut *output)
 }

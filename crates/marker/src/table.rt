@@ -61,8 +61,12 @@ pub(crate) fn put_bounds(
     ensures written { (handed result (λ bounds. tt), output.new) ≡ put_bounds (listed jobs) (take jobs.count settings) output.old }
     ensures given { IfOk result (λ bounds. bounds ≡ table most_jobs 0 (bounds_of (listed jobs) (take jobs.count settings))) }
 {
-    let bounds = bounds_of(jobs.table, settings, jobs.count);
     let count = Job::at_most(jobs.count);
+    // Bounds are not found before refusal 12 is known.
+    if output.len() < BOUND_SIZE * count {
+        return Err(Refusal::OutputLength);
+    }
+    let bounds = bounds_of(jobs.table, settings, jobs.count);
     record::write(&bounds[..count], &mut *output)?;
     Ok(bounds)
 }

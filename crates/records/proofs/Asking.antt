@@ -1,6 +1,6 @@
 -- What a caller of read_call knows from its answer, whatever tests stand between the range and what follows. Assumes nothing.
 use Prim.Native.Nat.{ℕ, ◌≤◌}
-use mathlib.Core.Path.{◌≡◌, sym, ap, subst, ◌∙◌}
+use mathlib.Core.Path.{◌≡◌, refl, sym, ap, subst, ◌∙◌}
 use mathlib.Core.List.{List, [], ◌++◌, append-nil}
 use native.Mathlib.Omega.{arith}
 use lib.ListN.{length, length-take}
@@ -9,7 +9,7 @@ use Rattle.records.specs.Limits.{most_jobs}
 use Rattle.records.specs.Refusals.{Answer, refused, given, number, Tests, outcome, answer, verdict, turned, Accepts}
 use Rattle.records.specs.Jobs.{table_tests, AcceptedJobs, block_tests, job_count, job_list, listed}
 use Rattle.records.specs.Ranges.{range_of, range_tests}
-use Rattle.records.specs.Calls.{Asked, asks, asked, call_tests, question_tests, question, read_call}
+use Rattle.records.specs.Calls.{Asked, asks, asked, judged_by, call_tests, question_tests, question, read_call}
 use Rattle.records.specs.declared.range.Range.{Range}
 use Rattle.records.specs.declared.call.Call.{Call}
 use Rattle.records.specs.declared.refusal.Refusal.{Refusal}
@@ -96,3 +96,11 @@ module _ (jobs : List ℕ) (low high : ℕ) (r : Result Call Refusal) (is : aske
     more-on u e =
         let on = handed-on (call_tests jobs low high) (question jobs low high) tt tt r asks is call handed_is in
         ap given on.1 ∙ sym (past-range ∙ ap told (passed-by more v judged [] (question jobs low high) tt tt u e))
+
+    -- The call after that judgement.
+    pub more-judged : judged_by v (asked r) ≡ longer
+    more-judged = ap (λ (x : Result Call Refusal). judged_by v (asked x)) handed_is ∙ by v refl
+      where
+        by : (w : Result (Unit {0}) Refusal) → v ≡ w → judged_by w (given (asks call)) ≡ longer
+        by (Ok u) e = more-on u e
+        by (Err refusal) e = more-turned refusal e

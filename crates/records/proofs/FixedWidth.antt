@@ -16,7 +16,7 @@ use borrow.Author.Tests.{lt-leb, le-leb, leb-true}
 use Rattle.sets.specs.Places.{list_of}
 use Rattle.sets.proofs.Places.{list-suc, list_length, list_at}
 use Rattle.std.specs.Prelude.{Result, Ok, Err}
-use Rattle.records.specs.Refusals.{Answer, refused, given, number, Tests, outcome, counted}
+use Rattle.records.specs.Refusals.{Answer, refused, given, number, Tests, outcome, verdict, counted, verdict_of}
 use Rattle.records.specs.declared.refusal.Refusal.{Refusal}
 use Rattle.records.specs.Records.{word, word_of, word_bytes, long_bytes, flat, chunks, table, written, room_tests, write_records}
 use Rattle.records.proofs.Outcomes.{gives, other-turned, other-given}
@@ -246,11 +246,19 @@ module _ {A : Type 0} (w : ℕ) (bytes : A → List ℕ) (xs : List A) (output :
         let new = written w bytes xs output in
         other-turned tests (w * length xs) tt new output after (number refusal) (ap (λ (x : Result ℕ Refusal). (counted x, after)) (sym f) ∙ e)
 
-    pub wrote-done : (n : ℕ) → wrote ≡ Ok n → (given tt, after) ≡ done
+    pub wrote-given : (n : ℕ) → wrote ≡ Ok n → (given tt, after) ≡ done
     unfolding write_records
-    wrote-done n f =
+    wrote-given n f =
         let new = written w bytes xs output in
         other-given tests (w * length xs) tt new output after n (ap (λ (x : Result ℕ Refusal). (counted x, after)) (sym f) ∙ e)
+
+    -- Both at once.
+    pub wrote-done : (v : Result (Unit {0}) Refusal) → v ≡ verdict_of wrote → (verdict v, after) ≡ done
+    wrote-done v f = ap (λ (x : Result (Unit {0}) Refusal). (verdict x, after)) f ∙ by wrote refl
+      where
+        by : (x : Result ℕ Refusal) → wrote ≡ x → (verdict (verdict_of x), after) ≡ done
+        by (Ok n) g = wrote-given n g
+        by (Err refusal) g = wrote-turned refusal g
 
 -- ---- the round trips, from the round trip of one record
 

@@ -7,10 +7,10 @@ use native.Mathlib.Omega.{arith}
 use lib.ListN.{length, get_or, take, set, length-map, length-take}
 use lib.Seq.{take-suc, length-take-le}
 use Rattle.std.specs.Prelude.{Result, Ok, Err}
-use Rattle.records.specs.Refusals.{Answer, refused, given, number, outcome, counted}
+use Rattle.records.specs.Refusals.{Answer, refused, given, number, outcome, verdict, counted, verdict_of}
 use Rattle.records.specs.Records.{table, written, room_tests, write_records}
 use Rattle.records.specs.declared.refusal.Refusal.{Refusal}
-use Rattle.records.proofs.FixedWidth.{fill-next, cut-take, take-table, take-cut, wrote-turned, wrote-done}
+use Rattle.records.proofs.FixedWidth.{fill-next, cut-take, take-table, take-cut, wrote-turned, wrote-given, wrote-done}
 
 pub map_at : {A B : Type 0} (f : A → B) (xs : List A) (a : A) (b : B) (i : ℕ) → i < length xs → get_or (map f xs) i b ≡ f (get_or xs i a)
 map_at f [] a b i l = absurd (omega arith)
@@ -70,5 +70,8 @@ module _ {A B : Type 0} (from : A → B) (blank : B) (k w : ℕ) (bytes : B → 
     pub made-turned : (refusal : Refusal) → wrote ≡ Err refusal → (refused (number refusal), after) ≡ done
     made-turned refusal g = wrote-turned w bytes (take n made) output wrote after f refusal g ∙ coming
 
-    pub made-written : (m : ℕ) → wrote ≡ Ok m → (given tt, after) ≡ done
-    made-written m g = wrote-done w bytes (take n made) output wrote after f m g ∙ coming
+    pub made-given : (m : ℕ) → wrote ≡ Ok m → (given tt, after) ≡ done
+    made-given m g = wrote-given w bytes (take n made) output wrote after f m g ∙ coming
+
+    pub made-written : (v : Result (Unit {0}) Refusal) → v ≡ verdict_of wrote → (verdict v, after) ≡ done
+    made-written v g = wrote-done w bytes (take n made) output wrote after f v g ∙ coming

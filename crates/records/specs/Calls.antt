@@ -1,6 +1,6 @@
 -- The way in: what every entry asks of a job block and a range before anything else, refusals 1, 2, 3, 5 and 6 (01). Assumes nothing.
-use Rattle.std.specs.Prelude.{ℕ, Result, List, ◌++◌}
-use Rattle.records.specs.Refusals.{Answer, Tests, answer, handed}
+use Rattle.std.specs.Prelude.{ℕ, Result, Ok, Err, List, ◌++◌}
+use Rattle.records.specs.Refusals.{Answer, refused, given, number, Tests, answer, handed}
 use Rattle.records.specs.Jobs.{table_tests, block_tests, job_count, job_list, listed}
 use Rattle.records.specs.Ranges.{range_of, range_tests}
 use Rattle.records.specs.declared.job.Job.{Job}
@@ -18,6 +18,12 @@ asks call = (call.jobs.count, (listed call.jobs, call.range))
 
 abbrev pub asked : Result Call Refusal → Answer Asked
 asked r = handed r asks
+
+-- The answer after a further judgement: the first refusal stays.
+abbrev pub judged_by : {A : Type 0} → Result (Unit {0}) Refusal → Answer A → Answer A
+judged_by v (refused k) = refused k
+judged_by (Ok u) (given a) = given a
+judged_by (Err refusal) (given a) = refused (number refusal)
 
 abbrev pub call_tests : List ℕ → ℕ → ℕ → Tests
 call_tests jobs low high = block_tests jobs ++ range_tests low high

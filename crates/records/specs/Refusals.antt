@@ -64,3 +64,8 @@ verdict r = handed r (λ v. tt)
 -- A count, or another value that is told as it is.
 abbrev pub counted : Result ℕ Refusal → Answer ℕ
 counted r = handed r (λ n. n)
+
+-- An answer without its count.
+abbrev pub verdict_of : Result ℕ Refusal → Result (Unit {0}) Refusal
+verdict_of (Ok n) = Ok tt
+verdict_of (Err refusal) = Err refusal

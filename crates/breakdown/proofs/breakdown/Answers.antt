@@ -11,7 +11,7 @@ use Rattle.records.specs.Jobs.{job_list}
 use Rattle.records.specs.declared.job.Job.{Job}
 use Rattle.records.proofs.Reading.{jobs-listed}
 use Rattle.records.proofs.Asking.{call-knows, call-turned}
-use Rattle.records.proofs.FixedWidth.{take-table, wrote-turned, wrote-done}
+use Rattle.records.proofs.FixedWidth.{take-table, wrote-turned, wrote-given}
 use Rattle.configuration.specs.declared.setting.Setting.{Setting}
 use Rattle.configuration.specs.Blocks.{settings_of, record_tests, read_settings}
 use Rattle.configuration.proofs.HandIns.{HandedIn, hand-in-turned, hand-in-on}
@@ -113,4 +113,4 @@ returns c =
     let w = (goal.at.returns c).After-write_parts in
     let a = c.args in
     breakdown-promise (jobs (s w)) a.low a.high (block (s w)) (output (s w)) _
-    (wrote-done parts_size parts_bytes (each-parts (s w)) (output (s w)) c.write_parts.result c.write_parts.new.output (saw w) _ c.in_ok-write_parts.was ∙ coming w)
+    (wrote-given parts_size parts_bytes (each-parts (s w)) (output (s w)) c.write_parts.result c.write_parts.new.output (saw w) _ c.in_ok-write_parts.was ∙ coming w)

@@ -17,7 +17,7 @@ use Rattle.records.proofs.Outcomes.{gives, turned_down, gone-past}
 use Rattle.records.proofs.Reading.{jobs-listed}
 use Rattle.records.proofs.Asking.{Knows, call-knows, call-turned, call-on}
 use Rattle.records.proofs.FixedWidth.{length-chunks, take-table}
-use Rattle.records.proofs.Mapped.{made-turned, made-written}
+use Rattle.records.proofs.Mapped.{made-turned, made-given}
 use Rattle.configuration.specs.Settings.{setting_size, setting_bytes, blank_setting}
 use Rattle.kernel.specs.declared.record.KernelRecord.{KernelRecord}
 use Rattle.kernel.specs.declared.block.KernelTable.{KernelTable}
@@ -151,5 +151,5 @@ returns c =
     let w = (goal.at.returns c).After-write in
     let a = c.args in
     from-kernel-promise (jobs (b w)) a.low a.high a.lowest a.highest (block (b w)) (output (b w)) _
-    (coming w (made-written (to_setting a.highest) blank_setting most_jobs setting_size setting_bytes c.in_ok-call.call.jobs.count _ (list w) (first w) (long w ∙ sym (many w))
+    (coming w (made-given (to_setting a.highest) blank_setting most_jobs setting_size setting_bytes c.in_ok-call.call.jobs.count _ (list w) (first w) (long w ∙ sym (many w))
     _ c.to_settings-settings.ensures (output (b w)) c.write.result _ c.write.ensures _ c.in_ok-write.was))

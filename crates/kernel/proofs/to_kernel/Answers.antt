@@ -10,7 +10,7 @@ use Rattle.records.specs.Jobs.{job_list}
 use Rattle.records.specs.declared.job.Job.{Job}
 use Rattle.records.proofs.Reading.{jobs-listed}
 use Rattle.records.proofs.Asking.{Knows, call-knows, call-turned}
-use Rattle.records.proofs.Mapped.{made-turned, made-written}
+use Rattle.records.proofs.Mapped.{made-turned, made-given}
 use Rattle.records.proofs.FixedWidth.{length-chunks}
 use Rattle.configuration.specs.Settings.{setting_size, setting_of}
 use Rattle.configuration.specs.Blocks.{settings_of, hand_in_tests, read_full}
@@ -125,5 +125,5 @@ returns c =
     let o = (goal.at.returns c).In_ok-call in
     let a = c.args in
     to-kernel-promise (jobs s) a.low a.high a.lowest a.highest (block s) (output s) _
-    (coming w (made-written (to_kernel_record a.highest) blank_kernel most_jobs kernel_size kernel_bytes c.in_ok-call.call.jobs.count c.in_ok-settings.settings.table (settings_of (jobs s) (block s)) (settings-first w) (counted-jobs o)
+    (coming w (made-given (to_kernel_record a.highest) blank_kernel most_jobs kernel_size kernel_bytes c.in_ok-call.call.jobs.count c.in_ok-settings.settings.table (settings_of (jobs s) (block s)) (settings-first w) (counted-jobs o)
     _ c.to_kernel_records-kernels.ensures (output s) c.write.result _ c.write.ensures _ c.in_ok-write.was))
