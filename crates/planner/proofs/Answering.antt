@@ -2,6 +2,7 @@
 use Prim.Native.Nat.{ℕ, min}
 use mathlib.Core.Path.{◌≡◌, sym, ap, ap₂, subst, ◌∙◌}
 use mathlib.Core.List.{List}
+use mathlib.Core.Option.{Option}
 use native.Mathlib.Omega.{arith}
 use lib.ListN.{length, take}
 use lib.Seq.{length-take-le}
@@ -24,19 +25,16 @@ use Rattle.configuration.proofs.Shapes.{shapes}
 use Rattle.search.specs.Search.{workload}
 use Rattle.search.specs.declared.workload.Workload.{Workload}
 use Rattle.marker.specs.Bounds.{bound_at}
-use Rattle.assignment.specs.Plan.{Plan, Stage, plan_from, start, plan}
+use Rattle.assignment.specs.Plan.{Plan, Stage, is_found, quanta_for, plan_from, start, plan}
 use Rattle.assignment.specs.Guarantee.{Guarantee}
 use Rattle.assignment.proofs.Planned.{plan-guaranteed}
-use Rattle.planner.specs.declared.quanta.Question.{Question}
-use Rattle.planner.specs.declared.quanta.QuantaSearch.TheVariants.{PerJob}
+use Rattle.planner.specs.declared.question.Question.{Question}
+use Rattle.planner.specs.declared.question.QuantaSearch.{QuantaSearch}
+use Rattle.planner.specs.declared.question.QuantaSearch.TheVariants.{PerJob}
 use Rattle.planner.specs.declared.levels.Progress.{Progress}
-use Rattle.planner.specs.Questions.{listed, finds, Accepted, Sound}
-use Rattle.planner.specs.Stages.{takeable, Sorted, progress_of, last_stage, count_all}
+use Rattle.planner.specs.Questions.{listed, finds_by, finds, Sound}
+use Rattle.planner.specs.Stages.{Sorted, progress_of, last_stage, count_all}
 use Rattle.planner.proofs.Asked.{listed-length, listed-costs}
-
--- What is asked of a table of jobs.
-abbrev pub asks : Workload → ℕ → Range → Question
-asks w n range = record { workload = w; n = n; range = range; search = PerJob }
 
 -- ---- the lengths of a plan's lists
 
@@ -49,12 +47,22 @@ module _ (jobs : List Job) (low high : ℕ) (p : Plan) (guaranteed : Guarantee j
 
 -- ---- the last stage is the plan
 
-module _ (w : Workload) (n : ℕ) (range : Range) (A : Accepted (asks w n range)) where
-  abbrev question : Question
-  question = asks w n range
+module _ (question : Question) (per-job : question.search ≡ PerJob) where
+  abbrev n : ℕ
+  n = question.n
+
+  abbrev range : Range
+  range = question.range
 
   abbrev jobs : List Job
   jobs = listed question
+
+  -- The search for quanta.
+  abbrev sought : ℕ → ℕ → Option (List ℕ)
+  sought = quanta_for jobs range.low range.high
+
+  finds-is : finds question ≡ sought
+  finds-is = ap (λ (search : QuantaSearch). finds_by search jobs range.low range.high) per-job
 
   -- The order of the sets.
   abbrev sequence : List ℕ
@@ -64,13 +72,13 @@ module _ (w : Workload) (n : ℕ) (range : Range) (A : Accepted (asks w n range)
   answer = plan jobs range.low range.high
 
   size : length jobs ≡ n
-  size = listed-length question A
+  size = listed-length question
 
   guaranteed : Guarantee jobs range.low range.high answer
-  guaranteed = plan-guaranteed jobs (listed-costs question A) (omega (arith, size, A.few)) range.low range.high A.low A.ordered
+  guaranteed = plan-guaranteed jobs (listed-costs question) (omega (arith, size, question.few)) range.low range.high question.low question.ordered
 
-  last-stage : last_stage question sequence ≡ plan_from jobs (finds question) sequence (length jobs) (start jobs)
-  last-stage = ap (λ (m : ℕ). plan_from jobs (finds question) sequence m (start jobs)) (sym size)
+  last-stage : last_stage question sequence ≡ plan_from jobs sought sequence (length jobs) (start jobs)
+  last-stage = ap₂ (λ (m : ℕ) (f : ℕ → ℕ → Option (List ℕ)). plan_from jobs f sequence m (start jobs)) (sym size) finds-is
 
   settings-is : take n (setting_table (last_stage question sequence).settings) ≡ answer.settings
   unfolding plan
@@ -90,7 +98,7 @@ module _ (w : Workload) (n : ℕ) (range : Range) (A : Accepted (asks w n range)
 
   count-is : count_all question sequence ≡ answer.considered
   unfolding plan
-  count-is = ap (λ (m : ℕ). considered_count (takeable question) sequence m (first_jobs m)) (sym size)
+  count-is = ap₂ (λ (m : ℕ) (f : ℕ → ℕ → Option (List ℕ)). considered_count (λ left s. is_found (f left s)) sequence m (first_jobs m)) (sym size) finds-is
 
   abbrev made : ℕ → ℕ → List Setting → List ℕ → Plan
   made placed considered settings bounds = record { placed = placed; considered = considered; settings = settings; bounds = bounds }
@@ -109,8 +117,13 @@ module _ (jobs : List Job) (n : ℕ) (range : Range) (eight : length jobs ≡ mo
   pub jobs-are : w.jobs ≡ jobs
   jobs-are = ap (λ (x : Workload). x.jobs) made_of
 
-  pub sound-accepted : Accepted (asks w n range)
-  sound-accepted = record {
+  -- What is asked.
+  abbrev pub asks : Question
+  asks = record {
+    workload = w;
+    n = n;
+    range = range;
+    search = PerJob;
     table = ap length jobs-are ∙ eight;
     few = S.few;
     whole = made_of ∙ ap workload (sym jobs-are);
@@ -121,7 +134,7 @@ module _ (jobs : List Job) (n : ℕ) (range : Range) (eight : length jobs ≡ mo
 
   -- The order of the sets, as the code finds it from the table.
   pub table-sorted : (sums : List ℕ) (all : ℕ) (r : Subsets) → SumsOf (period_at jobs) (min n most_jobs) sums → all ≡ first_jobs n → SubsetsOf sums all 1 r
-      → length r.sets ≡ most_of_size → Sorted (asks w n range) sums (take r.count r.sets)
+      → length r.sets ≡ most_of_size → Sorted asks sums (take r.count r.sets)
   table-sorted sums all r T ea I long =
       let e : min n most_jobs ≡ n = omega (arith, S.few) in
       record {

@@ -1,4 +1,4 @@
--- What the planner's functions know of an accepted question: the bounds that they find are those of the list. Assumes nothing.
+-- What the planner's functions know of a question: it is accepted, and the bounds that they find are those of the list. Assumes nothing.
 use Prim.Native.Nat.{ℕ, suc, ◌^◌, ◌≤◌, ◌<◌}
 use mathlib.Core.Bool.{Bool, false, cond}
 use native.Mathlib.Decide.{dec_le}
@@ -25,13 +25,16 @@ use Rattle.assignment.specs.Plan.{quanta_for, quanta_by}
 use Rattle.assignment.specs.Layers.{Hopeless, Settles}
 use Rattle.assignment.proofs.Serving.{Costs}
 use Rattle.assignment.proofs.Settling.{lowest-stands, says-smallest}
-use Rattle.planner.specs.declared.quanta.Question.{Question}
+use Rattle.planner.specs.declared.question.Question.{Question}
 use Rattle.std.specs.Prelude.{Option as Maybe, None, Some}
 use Rattle.planner.specs.Questions.{listed, lowest_quanta, Accepted, Laid, Pending, offered}
 
-module _ (question : Question) (A : Accepted question) where
+module _ (question : Question) where
+  pub accepted : Accepted question
+  accepted = record { table = question.table; few = question.few; whole = question.whole; costs = question.costs; low = question.low; ordered = question.ordered }
+
   pub listed-length : length (listed question) ≡ question.n
-  listed-length = length-take-le question.n question.workload.jobs (omega (arith, A.table, A.few))
+  listed-length = length-take-le question.n question.workload.jobs (omega (arith, question.table, question.few))
 
   pub listed_at : (k : ℕ) → k < question.n → job_at (listed question) k ≡ job_at question.workload.jobs k
   listed_at k l = get_or-take question.n question.workload.jobs k blank_job l
@@ -39,7 +42,7 @@ module _ (question : Question) (A : Accepted question) where
   pub listed-costs : Costs (listed question)
   listed-costs k l =
       let kn : k < question.n = omega (arith, listed-length) in
-      omega (arith, ap (λ (job : Job). job.cost) (listed_at k kn), A.costs k kn)
+      omega (arith, ap (λ (job : Job). job.cost) (listed_at k kn), question.costs k kn)
 
 -- The lowest quanta of a layer.
 pub lowest-at : (question : Question) (layer above : ℕ) → Laid question layer above → (low i : ℕ) → get_or (lowest_quanta low (has layer)) i 0 ≡ cond (has layer i) low 0
@@ -47,7 +50,7 @@ lowest-at question layer above L low i = elim (dec_le (suc i) most_jobs) [
   | yes l ↦ list_at f most_jobs i 0 l
   | no l ↦
       let short : length (list_of f most_jobs) ≤ i = omega (arith, list_length f most_jobs) in
-      let out : has layer i ≡ false = has-high question.n layer i L.inside (omega (arith, L.accepted.few)) in
+      let out : has layer i ≡ false = has-high question.n layer i L.inside (omega (arith, question.few)) in
       get_or-eq_default (list_of f most_jobs) 0 short ∙ sym (ap (λ (b : Bool). cond b low 0) out)
 ]
   where
@@ -58,29 +61,28 @@ pub asked-bound : (question : Question) (layer above : ℕ) → Laid question la
     → bound_by question.workload quanta (has layer) (has above) k ≡ bound (listed question) quanta (has layer) (has above) k
 asked-bound question layer above L quanta k l =
     let jobs = question.workload.jobs in
-    let A = L.accepted in
-    ap (λ (w : Workload). bound_by w quanta (has layer) (has above) k) A.whole
+    ap (λ (w : Workload). bound_by w quanta (has layer) (has above) k) question.whole
     ∙ bound-found jobs quanta (has layer) (has above) k
-    ∙ bound-take question.n jobs quanta (has layer) (has above) k (omega (arith, A.table, A.few)) l
+    ∙ bound-take question.n jobs quanta (has layer) (has above) k (omega (arith, question.table, question.few)) l
     (λ i il. has-high question.n layer i L.inside il) (λ i il. has-high question.n above i L.over il)
 
 -- ---- the quanta of a set, from the lowest
 
-module _ (question : Question) (A : Accepted question) (left set : ℕ) (left_less : left < 2 ^ question.n) (set-less : set < 2 ^ question.n)
+module _ (question : Question) (left set : ℕ) (left_less : left < 2 ^ question.n) (set-less : set < 2 ^ question.n)
     (above : ℕ) (is : above ≡ rest left set)
   where
     pub laid : Laid question set above
-    laid = record { accepted = A; inside = set-less; over = rw is (rest_lt question.n left set left_less) }
+    laid = record { accepted = accepted question; inside = set-less; over = rw is (rest_lt question.n left set left_less) }
 
     module _ (quanta : List ℕ) (lowest : quanta ≡ lowest_quanta question.range.low (has set)) where
       pub begins : Pending question set above set quanta
       begins = record {
         laid = laid;
         sub = within-refl set;
-        standing = lowest-stands (listed question) (listed-costs question A) question.range.low question.range.high A.low (has set) (has above) A.ordered quanta
-            (omega (arith, ap length lowest, list_length (λ i. cond (has set i) question.range.low 0) most_jobs, listed-length question A, A.few))
+        standing = lowest-stands (listed question) (listed-costs question) question.range.low question.range.high question.low (has set) (has above) question.ordered quanta
+            (omega (arith, ap length lowest, list_length (λ i. cond (has set i) question.range.low 0) most_jobs, listed-length question, question.few))
             (λ i. ap (λ (v : List ℕ). get_or v i 0) lowest ∙ lowest-at question set above laid question.range.low i)
-            (λ i l. has-high question.n set i set-less (omega (arith, listed-length question A)));
+            (λ i l. has-high question.n set i set-less (omega (arith, listed-length question)));
       }
 
     pub out : Hopeless (listed question) question.range.low question.range.high (has set) (has above) → quanta_for (listed question) question.range.low question.range.high left set ≡ none
@@ -93,5 +95,5 @@ module _ (question : Question) (A : Accepted question) (left set : ℕ) (left_le
     unfolding quanta_by
     ends v None h = sym (out h)
     ends v (Some u) S =
-        ap (λ (n : ℕ). some (take n u)) (sym (listed-length question A))
-        ∙ rw (← is) (says-smallest (listed question) (listed-costs question A) question.range.low question.range.high A.low (has set) (has above) v u S)
+        ap (λ (n : ℕ). some (take n u)) (sym (listed-length question))
+        ∙ rw (← is) (says-smallest (listed question) (listed-costs question) question.range.low question.range.high question.low (has set) (has above) v u S)

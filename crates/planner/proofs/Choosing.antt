@@ -22,13 +22,13 @@ use Rattle.periods.specs.Subsets.{weight_in, heaviest_first, SubsetsOf}
 use Rattle.periods.specs.declared.subsets.Subsets.{Subsets}
 use Rattle.periods.proofs.Ruling.{periods-length}
 use Rattle.periods.proofs.SizeBySize.{part-subsets, heaviest-same, beyond, beyond-all, beyond-next, beyond-none, next-some}
-use Rattle.planner.specs.declared.quanta.Question.{Question}
+use Rattle.planner.specs.declared.question.Question.{Question}
 use Rattle.planner.specs.declared.choice.Choice.{Choice}
-use Rattle.planner.specs.Questions.{listed, finds, Accepted}
+use Rattle.planner.specs.Questions.{listed, finds}
 use Rattle.planner.specs.Stages.{most_sets, takeable, Chosen, Sorted}
 use Rattle.planner.proofs.Asked.{listed_at}
 
-module _ (question : Question) (A : Accepted question) (sums singles : List ℕ) (S : Sorted question sums singles) where
+module _ (question : Question) (sums singles : List ℕ) (S : Sorted question sums singles) where
   abbrev weigh : ℕ → ℕ
   weigh = total (period_at (listed question))
 
@@ -36,14 +36,14 @@ module _ (question : Question) (A : Accepted question) (sums singles : List ℕ)
   weight_is : (s : ℕ) → s < 2 ^ question.n → weight_in sums s ≡ weigh s
   unfolding total
   weight_is s b =
-      mod-eq_of_lt (omega (arith, S.total.small s b, A.few))
+      mod-eq_of_lt (omega (arith, S.total.small s b, question.few))
       ∙ S.total.is s b
       ∙ over-same places (has s) (has s) (period_at question.workload.jobs) (period_at (listed question)) (λ i il. refl)
-      (λ i il e. ap (λ (job : Job). job.period) (sym (listed_at question A i (member-lt question.n s i b e))))
+      (λ i il e. ap (λ (job : Job). job.period) (sym (listed_at question i (member-lt question.n s i b e))))
 
   module _ (left : ℕ) (less : left < 2 ^ question.n) where
     byte : left < 2 ^ places
-    byte = omega (arith, pow_mono A.few)
+    byte = omega (arith, pow_mono question.few)
 
     in_order : (m : ℕ) → heaviest_first (weight_in sums) left m ≡ heaviest_first weigh left m
     in_order m = heaviest-same (weight_in sums) weigh left m (λ s l. weight_is s (omega arith))
@@ -51,7 +51,7 @@ module _ (question : Question) (A : Accepted question) (sums singles : List ℕ)
     of-all : within left (first_jobs question.n) ≡ true
     unfolding first_jobs
     of-all =
-        let e : min question.n places ≡ question.n = omega (arith, A.few) in
+        let e : min question.n places ≡ question.n = omega (arith, question.few) in
         ap (λ (k : ℕ). within left (2 ^ k - 1)) e ∙ has_within question.n left (2 ^ question.n - 1) less (λ i il h. has-full question.n i il)
 
     -- What the code walks through.

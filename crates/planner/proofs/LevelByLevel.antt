@@ -14,10 +14,10 @@ use Rattle.records.specs.declared.job.Job.{Job}
 use Rattle.assignment.specs.Plan.{quanta_in, chosen, Stage, place, place_by, plan_from, plan_from_by, start}
 use Rattle.assignment.proofs.Plays.{plan-stops, plan-goes}
 use Rattle.assignment.proofs.Planned.{start-less}
-use Rattle.planner.specs.declared.quanta.Question.{Question}
+use Rattle.planner.specs.declared.question.Question.{Question}
 use Rattle.planner.specs.declared.choice.Choice.{Choice}
 use Rattle.planner.specs.declared.levels.Progress.{Progress}
-use Rattle.planner.specs.Questions.{listed, finds, Accepted}
+use Rattle.planner.specs.Questions.{listed, finds}
 use Rattle.planner.specs.Stages.{most_sets, takeable, Chosen, progress_of, stage_of, last_stage, count_all}
 use Rattle.planner.proofs.Asked.{listed-length}
 use Rattle.planner.proofs.Progressing.{place-table}
@@ -31,7 +31,7 @@ pub record Reaches (question : Question) (sequence : List ℕ) (level : ℕ) (pr
   pub count : progress.considered + considered_count (takeable question) sequence level stage.left ≡ count_all question sequence
   pub few : progress.considered + most_sets * level ≤ most_sets * most_jobs
 
-module _ (question : Question) (A : Accepted question) (sequence : List ℕ) (short : length sequence ≤ most_sets) where
+module _ (question : Question) (sequence : List ℕ) (short : length sequence ≤ most_sets) where
   abbrev jobs : List Job
   jobs = listed question
 
@@ -42,10 +42,10 @@ module _ (question : Question) (A : Accepted question) (sequence : List ℕ) (sh
       record {
         stage = start jobs;
         shows = e ∙ ap (progress_of (start jobs)) (sym none);
-        less = omega (arith, start-less jobs (omega (arith, listed-length question A, A.few)), ap (λ (m : ℕ). 2 ^ m) (listed-length question A));
+        less = omega (arith, start-less jobs (omega (arith, listed-length question, question.few)), ap (λ (m : ℕ). 2 ^ m) (listed-length question));
         ends = refl;
-        count = ap₂ (λ (x y : ℕ). x + considered_count (takeable question) sequence question.n (first_jobs y)) none (listed-length question A) ∙ omega arith;
-        few = omega (arith, none, A.few);
+        count = ap₂ (λ (x y : ℕ). x + considered_count (takeable question) sequence question.n (first_jobs y)) none (listed-length question) ∙ omega arith;
+        few = omega (arith, none, question.few);
       }
 
   pub reaches_end : (progress : Progress) → Reaches question sequence 0 progress → progress ≡ progress_of (last_stage question sequence) (count_all question sequence)

@@ -19,13 +19,13 @@ use Rattle.configuration.specs.Settings.{blank_setting, setting_at, setting_tabl
 use Rattle.response.specs.Demand.{bound}
 use Rattle.response.proofs.Easier.{bound-same}
 use Rattle.assignment.specs.Plan.{Stage, setting_in, setting_left, put, place, place_by, start}
-use Rattle.planner.specs.declared.quanta.Question.{Question}
+use Rattle.planner.specs.declared.question.Question.{Question}
 use Rattle.planner.specs.declared.levels.Progress.{Progress}
-use Rattle.planner.specs.Questions.{listed, Accepted}
+use Rattle.planner.specs.Questions.{listed}
 use Rattle.planner.specs.Stages.{settings_with, bounds_with, progress_of, stage_of}
 use Rattle.planner.proofs.Asked.{listed-length, listed_at}
 
-module _ (question : Question) (A : Accepted question) where
+module _ (question : Question) where
   abbrev n : ℕ
   n = question.n
 
@@ -33,10 +33,10 @@ module _ (question : Question) (A : Accepted question) where
   jobs = listed question
 
   size_is : length jobs ≡ n
-  size_is = listed-length question A
+  size_is = listed-length question
 
   id-at : (k : ℕ) → k < n → (job_at jobs k).id ≡ (job_at question.workload.jobs k).id
-  id-at k l = ap (λ (job : Job). job.id) (listed_at question A k l)
+  id-at k l = ap (λ (job : Job). job.id) (listed_at question k l)
 
   -- Over the list or over n places.
   over : {X : Type 0} (f g : ℕ → X) → ((k : ℕ) → k < n → f k ≡ g k) → list_of f (length jobs) ≡ list_of g n
@@ -53,7 +53,7 @@ module _ (question : Question) (A : Accepted question) where
       let b = over {X = ℕ} (λ (k : ℕ). 0) (λ (k : ℕ). 0) (λ k l. refl) in
       ap₂ (λ (x : ℕ) (y : List Setting). progress x 0 y (replicate most_jobs 0)) (el ∙ sym (ap first_jobs size_is)) (es ∙ sym (ap setting_table s))
       ∙ ap (progress (first_jobs (length jobs)) 0 (setting_table (list_of (λ k. setting_left (job_at jobs k).id) (length jobs))))
-      (sym (ap (table most_jobs 0) b ∙ table-blank most_jobs n 0 A.few))
+      (sym (ap (table most_jobs 0) b ∙ table-blank most_jobs n 0 question.few))
 
   -- A set takes a level; p are the tables before.
   module _ (p : Progress) (level set : ℕ) (quanta : List ℕ) where

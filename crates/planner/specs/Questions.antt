@@ -10,9 +10,9 @@ use Rattle.records.specs.declared.range.Range.{Range}
 use Rattle.search.specs.Search.{workload}
 use Rattle.assignment.specs.Layers.{Standing}
 use Rattle.assignment.specs.Plan.{quanta_for}
-use Rattle.planner.specs.declared.quanta.Question.{Question}
-use Rattle.planner.specs.declared.quanta.QuantaSearch.{QuantaSearch}
-use Rattle.planner.specs.declared.quanta.QuantaSearch.TheVariants.{PerJob}
+use Rattle.planner.specs.declared.question.Question.{Question}
+use Rattle.planner.specs.declared.question.QuantaSearch.{QuantaSearch}
+use Rattle.planner.specs.declared.question.QuantaSearch.TheVariants.{PerJob}
 
 -- The list of jobs.
 abbrev pub listed : Question → List Job

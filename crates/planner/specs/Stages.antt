@@ -13,7 +13,7 @@ use Rattle.configuration.specs.declared.setting.Setting.{Setting}
 use Rattle.configuration.specs.Settings.{setting_at, setting_table}
 use Rattle.response.specs.Demand.{bound}
 use Rattle.assignment.specs.Plan.{is_found, chosen, Stage, setting_in, put, plan_from, start}
-use Rattle.planner.specs.declared.quanta.Question.{Question}
+use Rattle.planner.specs.declared.question.Question.{Question}
 use Rattle.planner.specs.declared.choice.Choice.{Choice}
 use Rattle.planner.specs.declared.levels.Progress.{Progress}
 use Rattle.planner.specs.Questions.{listed, finds}

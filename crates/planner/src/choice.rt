@@ -1,11 +1,11 @@
 // The search for the set that a level takes.
 ghost use Rattle.std.specs.Prelude.{◌^◌, ◌≤◌, ◌<◌, length};
 ghost use Rattle.periods.specs.ByPeriods.{by_periods};
-ghost use Rattle.planner.specs.Questions.{listed, Accepted};
+ghost use Rattle.planner.specs.Questions.{listed};
 ghost use Rattle.planner.specs.Stages.{most_sets, Chosen, Sorted};
 
 use crate::quanta;
-use crate::quanta::Question;
+use crate::question::Question;
 use periods::sums::ALL;
 use records::job::Job;
 
@@ -20,7 +20,7 @@ pub struct Choice {
 
 // Goes through the subsets of the jobs left, in the order of the sequence.
 fn first_of(question: &Question, sequence: &[u8], left: u8) -> Choice
-    requires { Accepted question.now × (left < 2 ^ question.now.n) × (length sequence.now ≤ most_sets) }
+    requires { (left < 2 ^ question.now.n) × (length sequence.now ≤ most_sets) }
     ensures { Chosen question.now sequence.now left result }
 {
     let mut place = 0;
@@ -49,7 +49,7 @@ fn first_of(question: &Question, sequence: &[u8], left: u8) -> Choice
 // Goes through the subsets of the jobs left, size by size, each size by larger sum of periods, then by smaller number. The sets of one job
 // are given in their order; those of a larger size are put in order when it is reached.
 pub(crate) fn choose(question: &Question, sums: &[u32; ALL], singles: &[u8], left: u8) -> Choice
-    requires { Accepted question.now × (left < 2 ^ question.now.n) × Sorted question.now sums.now singles.now }
+    requires { (left < 2 ^ question.now.n) × Sorted question.now sums.now singles.now }
     ensures { Chosen question.now (by_periods (listed question.now)) left result }
 {
     let alone = first_of(question, singles, left);

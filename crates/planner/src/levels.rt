@@ -7,12 +7,12 @@ ghost use Rattle.periods.specs.ByPeriods.{by_periods};
 ghost use Rattle.configuration.specs.Settings.{setting_table};
 ghost use Rattle.response.specs.Demand.{bound};
 ghost use Rattle.assignment.specs.Plan.{setting_in, place as place_of, start as start_of};
-ghost use Rattle.planner.specs.Questions.{listed, Accepted, Laid};
+ghost use Rattle.planner.specs.Questions.{listed, Laid};
 ghost use Rattle.planner.specs.Stages.{Sorted, settings_with, bounds_with, progress_of, stage_of, last_stage, count_all};
 
 use crate::choice;
 use crate::choice::Choice;
-use crate::quanta::Question;
+use crate::question::Question;
 use configuration::setting::Setting;
 use periods::sums::ALL;
 use records::job::Job;
@@ -55,7 +55,6 @@ fn settings_with(
     set: u8,
     quanta: [u8; Job::MOST],
 ) -> [Setting; Job::MOST]
-    requires { Accepted question.now }
     ensures { result ≡ setting_table (settings_with question.now settings level set quanta) }
 {
     let workload = question.workload;
@@ -98,7 +97,7 @@ fn bounds_with(
 
 // The set that was chosen takes the level.
 fn place(question: &Question, progress: Progress, level: u8, choice: Choice) -> Progress
-    requires { Accepted question.now × (progress.left < 2 ^ question.now.n) × (choice.set < 2 ^ question.now.n) × (progress.considered + choice.considered < 2 ^ 16) }
+    requires { (progress.left < 2 ^ question.now.n) × (choice.set < 2 ^ question.now.n) × (progress.considered + choice.considered < 2 ^ 16) }
     ensures { result ≡ progress_of (place_of (listed question.now) level choice.set (take question.now.n choice.quanta) (stage_of progress)) (progress.considered + choice.considered) }
 {
     let set = choice.set;
@@ -118,7 +117,6 @@ fn place(question: &Question, progress: Progress, level: u8, choice: Choice) -> 
 
 // No job is placed.
 fn start(question: &Question) -> Progress
-    requires { Accepted question.now }
     ensures { result ≡ progress_of (start_of (listed question.now)) 0 }
 {
     let workload = question.workload;
@@ -142,7 +140,7 @@ fn start(question: &Question) -> Progress
 
 // From the lowest level up, each takes the first set that can be taken.
 pub(crate) fn plan_levels(question: Question, sums: &[u32; ALL], singles: &[u8]) -> Progress
-    requires { Accepted question × Sorted question sums.now singles.now }
+    requires { Sorted question sums.now singles.now }
     ensures { result ≡ progress_of (last_stage question (by_periods (listed question))) (count_all question (by_periods (listed question))) }
 {
     let mut progress = start(&question);

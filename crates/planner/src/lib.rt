@@ -8,6 +8,7 @@ use records::refusal::Refusal;
 mod choice;
 mod levels;
 mod quanta;
+mod question;
 pub mod table;
 
 // What the planner answers: the placed set's number and the count of sets considered.

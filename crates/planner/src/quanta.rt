@@ -3,26 +3,10 @@ ghost use Rattle.std.specs.Prelude.{◌≡◌, true, false, ◌^◌, ◌<◌};
 ghost use Rattle.sets.specs.Sets.{has};
 ghost use Rattle.assignment.specs.Plan.{quanta_for};
 ghost use Rattle.assignment.specs.Layers.{Standing, Hopeless, Raises, Settles};
-ghost use Rattle.planner.specs.Questions.{listed, lowest_quanta, finds, Accepted, Laid, Pending, offered};
+ghost use Rattle.planner.specs.Questions.{listed, lowest_quanta, finds, Laid, Pending, offered};
 
+use crate::question::{QuantaSearch, Question};
 use records::job::Job;
-use records::range::Range;
-use search::workload::Workload;
-
-// How the quanta of a layer are sought: each job has one of its own.
-#[derive(Clone, Copy)]
-pub enum QuantaSearch {
-    PerJob,
-}
-
-// What the planner is asked: the jobs with their utilisations, their number, the range of quanta, and how these are sought.
-#[derive(Clone, Copy)]
-pub struct Question {
-    pub workload: Workload,
-    pub n: usize,
-    pub range: Range,
-    pub search: QuantaSearch,
-}
 
 // The lowest quantum for each job of a set, 0 for the others.
 fn lowest_quanta(set: u8, low: u8) -> [u8; Job::MOST]
@@ -107,7 +91,7 @@ fn settle(
 
 // The quanta with which a set of the jobs left can be taken, the rest of them above, each job having one of its own.
 fn quanta_per_job(question: &Question, left: u8, set: u8) -> Option<[u8; Job::MOST]>
-    requires { Accepted question.now × (left < 2 ^ question.now.n) × (set < 2 ^ question.now.n) }
+    requires { (left < 2 ^ question.now.n) × (set < 2 ^ question.now.n) }
     ensures { offered question.now.n result ≡ quanta_for (listed question.now) question.now.range.low question.now.range.high left set }
 {
     let above = sets::rest(left, set);
@@ -121,7 +105,7 @@ fn quanta_per_job(question: &Question, left: u8, set: u8) -> Option<[u8; Job::MO
 
 // The quanta with which a set of the jobs left can be taken, by the search that is asked for.
 pub(crate) fn quanta_for(question: &Question, left: u8, set: u8) -> Option<[u8; Job::MOST]>
-    requires { Accepted question.now × (left < 2 ^ question.now.n) × (set < 2 ^ question.now.n) }
+    requires { (left < 2 ^ question.now.n) × (set < 2 ^ question.now.n) }
     ensures { offered question.now.n result ≡ finds question.now left set }
 {
     match question.search {

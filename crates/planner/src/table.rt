@@ -5,7 +5,7 @@ ghost use Rattle.assignment.specs.Plan.{plan as plan_of};
 ghost use Rattle.planner.specs.Questions.{Sound};
 ghost use Rattle.planner.specs.Plans.{plan_in, planned, TablePromise, answered, put_plan};
 
-use crate::quanta::{QuantaSearch, Question};
+use crate::question::{QuantaSearch, Question};
 use crate::{Planned, levels};
 use configuration::setting::Setting;
 use marker::table::BOUND_SIZE;

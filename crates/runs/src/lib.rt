@@ -15,6 +15,7 @@ use records::job::Job;
 const INSTANCES: u32 = 64;
 
 // Whether the layer asks for more than is spare of the processor: then no instance finishes by its next release.
+// The quantum and the sum of the others stay two numbers, as `run_for` and the definitions take them: a struct would make clauses longer.
 fn runs_on(spare: u64, quantum: u8, others: u16, job: Job) -> bool
     requires { spare ≤ whole }
     ensures { result ≡ runs_on spare quantum others job }

@@ -12,7 +12,7 @@ use Rattle.periods.specs.ByPeriods.{total, period_at, by_periods}
 use Rattle.periods.specs.Subsets.{most_of_size, heaviest_first}
 use Rattle.periods.proofs.SizeBySize.{beyond}
 use Rattle.sets.proofs.Searching.{Reached}
-use Rattle.planner.specs.declared.quanta.Question.{Question}
+use Rattle.planner.specs.declared.question.Question.{Question}
 use Rattle.planner.specs.Questions.{listed}
 use Rattle.planner.specs.Stages.{takeable, Chosen}
 use Rattle.planner.proofs.Choosing.{singles-are, found-are, search-starts, missed-few, search-ends, size-misses, size-takes}
@@ -30,13 +30,13 @@ module _ (c : After-first_of-alone) where
 
   alone-takes : (c.first_of-alone.result.set ≡ 0 → ⊥) → Chosen question (by_periods (listed question)) left c.first_of-alone.result
   alone-takes some-set =
-      size-takes question c.requires.0 _ _ c.requires.2 left c.requires.1 0 0 (search-starts question c.requires.0 _ _ c.requires.2 left c.requires.1) (omega arith)
-      c.args.singles.now (singles-are question c.requires.0 _ _ c.requires.2 left c.requires.1) c.first_of-alone.result c.first_of-alone.ensures some-set c.first_of-alone.result refl refl (omega arith)
+      size-takes question _ _ c.requires.1 left c.requires.0 0 0 (search-starts question _ _ c.requires.1 left c.requires.0) (omega arith)
+      c.args.singles.now (singles-are question _ _ c.requires.1 left c.requires.0) c.first_of-alone.result c.first_of-alone.ensures some-set c.first_of-alone.result refl refl (omega arith)
 
   alone-misses : c.first_of-alone.result.set ≡ 0 → Reached (takeable question left) (subsets left (by_periods (listed question))) (beyond (total (period_at (listed question))) left 1) c.first_of-alone.result.considered
   alone-misses none =
-      size-misses question c.requires.0 _ _ c.requires.2 left c.requires.1 0 0 (search-starts question c.requires.0 _ _ c.requires.2 left c.requires.1) (omega arith)
-      c.args.singles.now (singles-are question c.requires.0 _ _ c.requires.2 left c.requires.1) c.first_of-alone.result c.first_of-alone.ensures none 1 c.first_of-alone.result.considered refl (omega arith)
+      size-misses question _ _ c.requires.1 left c.requires.0 0 0 (search-starts question _ _ c.requires.1 left c.requires.0) (omega arith)
+      c.args.singles.now (singles-are question _ _ c.requires.1 left c.requires.0) c.first_of-alone.result c.first_of-alone.ensures none 1 c.first_of-alone.result.considered refl (omega arith)
 
 pub returns-then-alone-ne0 : goal.returns-then-alone-ne0
 returns-then-alone-ne0 c = alone-takes (goal.at.returns-then-alone-ne0 c).After-first_of-alone c.if-alone-ne0.true
@@ -54,7 +54,7 @@ module _ (c : In-loop-size) where
 
   below : before < places
   below =
-      omega (arith, c.loop-size-test.true, c.loop-size.auto.size, c.size-most.ensures, size-bound places (left (goal.at.In-loop-size c).After-first_of-alone) (omega (arith, c.requires.1, pow_mono c.requires.0.few)))
+      omega (arith, c.loop-size-test.true, c.loop-size.auto.size, c.size-most.ensures, size-bound places (left (goal.at.In-loop-size c).After-first_of-alone) (omega (arith, c.requires.0, pow_mono c.args.question.now.few)))
 
 module _ (c : After-subsets_of-found) where
   abbrev count : ℕ
@@ -74,7 +74,7 @@ module _ (c : After-first_of-choice) where
   room =
       omega (
         arith,
-        missed-few c.args.question.now c.requires.0 _ _ c.requires.2 c.args.left c.requires.1 _ c.loop-size.missed c.loop-size.invariant.1,
+        missed-few c.args.question.now _ _ c.requires.1 c.args.left c.requires.0 _ c.loop-size.missed c.loop-size.invariant.1,
         c.first_of-choice.ensures.few,
         length-take-le (count (goal.at.After-first_of-choice c).After-subsets_of-found) c.subsets_of-found.result.sets (fits (goal.at.After-first_of-choice c).After-subsets_of-found),
         c.subsets_of-found.ensures.few,
@@ -82,14 +82,14 @@ module _ (c : After-first_of-choice) where
 
   part-are : subsets c.args.left part ≡ heaviest_first (total (period_at (listed c.args.question.now))) c.args.left (suc (before (goal.at.After-first_of-choice c).In-loop-size))
   part-are =
-      found-are c.args.question.now c.requires.0 _ _ c.requires.2 c.args.left c.requires.1 c.loop-size.size c.subsets_of-found.result c.subsets_of-found.ensures
+      found-are c.args.question.now _ _ c.requires.1 c.args.left c.requires.0 c.loop-size.size c.subsets_of-found.result c.subsets_of-found.ensures
       ∙ ap (heaviest_first (total (period_at (listed c.args.question.now))) c.args.left) (sym (next (goal.at.After-first_of-choice c).In-loop-size))
 
   -- None of them can be taken.
   misses : c.first_of-choice.result.set ≡ 0
       → Reached (takeable c.args.question.now c.args.left) (subsets c.args.left (by_periods (listed c.args.question.now))) (beyond (total (period_at (listed c.args.question.now))) c.args.left (c.loop-size.size + 1 - 1)) (c.loop-size.missed + c.first_of-choice.result.considered)
   misses none =
-      size-misses c.args.question.now c.requires.0 _ _ c.requires.2 c.args.left c.requires.1 _ _ c.loop-size.invariant.1 (below (goal.at.After-first_of-choice c).In-loop-size) part part-are
+      size-misses c.args.question.now _ _ c.requires.1 c.args.left c.requires.0 _ _ c.loop-size.invariant.1 (below (goal.at.After-first_of-choice c).In-loop-size) part part-are
       c.first_of-choice.result c.first_of-choice.ensures none _ _ (omega (arith, next (goal.at.After-first_of-choice c).In-loop-size)) refl
 
 pub overflow_add-missed : goal.overflow_add-missed
@@ -97,7 +97,7 @@ overflow_add-missed c = omega (arith, room (goal.at.overflow_add-missed c).After
 
 pub returns-then-choice-ne0 : goal.returns-then-choice-ne0
 returns-then-choice-ne0 c =
-    size-takes c.args.question.now c.requires.0 _ _ c.requires.2 c.args.left c.requires.1 _ _ c.loop-size.invariant.1 (below (goal.at.returns-then-choice-ne0 c).In-loop-size) (part (goal.at.returns-then-choice-ne0 c).After-first_of-choice) (part-are (goal.at.returns-then-choice-ne0 c).After-first_of-choice)
+    size-takes c.args.question.now _ _ c.requires.1 c.args.left c.requires.0 _ _ c.loop-size.invariant.1 (below (goal.at.returns-then-choice-ne0 c).In-loop-size) (part (goal.at.returns-then-choice-ne0 c).After-first_of-choice) (part-are (goal.at.returns-then-choice-ne0 c).After-first_of-choice)
     c.first_of-choice.result c.first_of-choice.ensures c.if-choice-ne0.true _ refl refl refl
 
 pub loop-size-preserved : goal.loop-size-preserved
@@ -108,8 +108,8 @@ loop-size-preserved c = (
 
 pub returns-else-alone-ne0 : goal.returns-else-alone-ne0
 returns-else-alone-ne0 c =
-    search-ends c.args.question.now c.requires.0 _ _ c.requires.2 c.args.left c.requires.1 _ _ c.loop-size.invariant.1 (omega (arith, c.loop-size-test.false, c.size-most.ensures)) _ refl refl
+    search-ends c.args.question.now _ _ c.requires.1 c.args.left c.requires.0 _ _ c.loop-size.invariant.1 (omega (arith, c.loop-size-test.false, c.size-most.ensures)) _ refl refl
 
 pub returns-else-choice-ne0 : goal.returns-else-choice-ne0
 returns-else-choice-ne0 c =
-    search-ends c.args.question.now c.requires.0 _ _ c.requires.2 c.args.left c.requires.1 _ _ (misses (goal.at.returns-else-choice-ne0 c).After-first_of-choice c.if-choice-ne0.false) (omega (arith, c.size-most.ensures)) _ refl refl
+    search-ends c.args.question.now _ _ c.requires.1 c.args.left c.requires.0 _ _ (misses (goal.at.returns-else-choice-ne0 c).After-first_of-choice c.if-choice-ne0.false) (omega (arith, c.size-most.ensures)) _ refl refl

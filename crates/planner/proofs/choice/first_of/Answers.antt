@@ -22,7 +22,7 @@ bounds-sequence-at c = omega (arith, (step (goal.at.bounds-sequence-at c).In-Som
 
 pub quanta_for-found-requires : goal.quanta_for-found-requires
 quanta_for-found-requires c =
-    (c.requires.0, c.requires.1, omega (arith, within-le (get_or c.args.sequence.now c.in-Some.at 0) c.args.left (step (goal.at.quanta_for-found-requires c).In-Some).inside, c.requires.1))
+    (c.requires.0, omega (arith, within-le (get_or c.args.sequence.now c.in-Some.at 0) c.args.left (step (goal.at.quanta_for-found-requires c).In-Some).inside, c.requires.0))
 
 pub returns-in-Some-found : goal.returns-in-Some-found
 returns-in-Some-found c =
@@ -34,7 +34,7 @@ returns-in-Some-found c =
 
 pub overflow_add-place : goal.overflow_add-place
 overflow_add-place c =
-    omega (arith, (step (goal.at.overflow_add-place c).In-Some).before, c.requires.2)
+    omega (arith, (step (goal.at.overflow_add-place c).In-Some).before, c.requires.1)
 
 pub loop-at-smaller : goal.loop-at-smaller
 loop-at-smaller c =

@@ -4,7 +4,7 @@ use lib.ListN.{length, drop}
 use Rattle.sets.specs.Order.{subsets}
 use Rattle.sets.proofs.Searching.{Reached}
 use Rattle.assignment.specs.Plan.{is_found}
-use Rattle.planner.specs.declared.quanta.Question.{Question}
+use Rattle.planner.specs.declared.question.Question.{Question}
 use Rattle.planner.specs.Questions.{finds}
 use Rattle.planner.proofs.choice.first_of.Given as goal
 

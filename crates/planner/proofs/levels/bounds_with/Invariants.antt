@@ -8,7 +8,7 @@ use Rattle.sets.specs.Sets.{has}
 use Rattle.records.specs.Limits.{most_jobs}
 use Rattle.records.specs.Records.{table}
 use Rattle.response.specs.Demand.{bound}
-use Rattle.planner.specs.declared.quanta.Question.{Question}
+use Rattle.planner.specs.declared.question.Question.{Question}
 use Rattle.planner.specs.Questions.{listed}
 use Rattle.planner.proofs.levels.bounds_with.Given as goal
 

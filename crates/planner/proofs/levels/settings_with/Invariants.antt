@@ -9,7 +9,7 @@ use Rattle.records.specs.Jobs.{job_at}
 use Rattle.configuration.specs.declared.setting.Setting.{Setting}
 use Rattle.configuration.specs.Settings.{setting_at, setting_table}
 use Rattle.assignment.specs.Plan.{setting_in}
-use Rattle.planner.specs.declared.quanta.Question.{Question}
+use Rattle.planner.specs.declared.question.Question.{Question}
 use Rattle.planner.proofs.levels.settings_with.Given as goal
 
 -- The setting of the job at place k.

@@ -16,7 +16,7 @@ use Rattle.planner.proofs.levels.start.Goals.{Start}
 
 -- The jobs that the loop goes through.
 size : (c : Start) → length (take c.args.question.now.n c.args.question.now.workload.jobs) ≡ c.args.question.now.n
-size c = length-take-le c.args.question.now.n c.args.question.now.workload.jobs (omega (arith, c.requires.table, c.requires.few))
+size c = length-take-le c.args.question.now.n c.args.question.now.workload.jobs (omega (arith, c.args.question.now.table, c.args.question.now.few))
 
 pub loop-k-init : goal.loop-k-init
 unfolding list_of
@@ -27,7 +27,7 @@ loop-k-preserved c =
     let l = c.loop-k in
     let a = c.args in
     let within : l.k < a.question.now.n = omega (arith, size (goal.at.loop-k-preserved c).Start) in
-    list-next (λ i. setting_left (job_at a.question.now.workload.jobs i).id) most_jobs l.k blank_setting l.settings _ (omega (arith, within, c.requires.few)) l.invariant
+    list-next (λ i. setting_left (job_at a.question.now.workload.jobs i).id) most_jobs l.k blank_setting l.settings _ (omega (arith, within, a.question.now.few)) l.invariant
     (ap (λ (job : Job). setting_left job.id) (get_or-take a.question.now.n a.question.now.workload.jobs l.k blank_job within))
 
 pub returns : goal.returns
@@ -35,5 +35,5 @@ returns c =
     let l = c.loop-k in
     let a = c.args in
     let e : l.k ≡ a.question.now.n = omega (arith, size (goal.at.returns c).Start) in
-    start_is a.question.now c.requires c.first_jobs.result l.settings c.first_jobs.ensures
+    start_is a.question.now c.first_jobs.result l.settings c.first_jobs.ensures
     (l.invariant ∙ ap (λ (k : ℕ). setting_table (list_of (λ i. setting_left (job_at a.question.now.workload.jobs i).id) k)) e)

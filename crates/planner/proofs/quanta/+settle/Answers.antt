@@ -23,10 +23,10 @@ module _ (t : ℕ) (c : Start t) where
   jobs = listed c.args.question.now
 
   costs : Costs jobs
-  costs = listed-costs c.args.question.now c.requires.laid.accepted
+  costs = listed-costs c.args.question.now
 
   lp : 0 < c.args.question.now.range.low
-  lp = c.requires.laid.accepted.low
+  lp = c.args.question.now.low
 
 -- What is known at a turn of the loop.
 module _ (t : ℕ) (c : At-loop-stood t) where
@@ -43,7 +43,7 @@ module _ (t : ℕ) (c : At-loop-stood t) where
   place = member-lt c.args.question.now.n c.args.layer c.lowest-job.result c.requires.laid.inside in-layer
 
   listed-place : c.lowest-job.result < length (jobs t start)
-  listed-place = omega (arith, place, listed-length c.args.question.now c.requires.laid.accepted)
+  listed-place = omega (arith, place, listed-length c.args.question.now)
 
 pub returns-then-pending-eq0 : goal.returns-then-pending-eq0
 returns-then-pending-eq0 t c =

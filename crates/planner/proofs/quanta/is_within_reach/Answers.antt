@@ -16,14 +16,13 @@ pub returns-then-bound-eq0 : goal.returns-then-bound-eq0
 returns-then-bound-eq0 c =
     let a = c.args in
     let L = c.requires.0 in
-    let A = L.accepted in
     let k = c.loop-job.job in
     let q = set a.quanta k a.question.now.range.high in
     let kn : k < a.question.now.n = c.loop-job-test.true in
     let long : length a.quanta ≡ most_jobs = search rules in
     let is = c.bound.ensures ∙ asked-bound a.question.now a.layer a.above L q k kn in
-    λ e. out-of-reach (listed a.question.now) (listed-costs a.question.now A) a.question.now.range.low a.question.now.range.high A.low (has a.layer) (has a.above) k
-    (omega (arith, listed-length a.question.now A)) (sym c.contains.ensures ∙ c.if-contains.true) q
-    (get_or-set_same a.quanta k a.question.now.range.high 0 (omega (arith, A.few)))
+    λ e. out-of-reach (listed a.question.now) (listed-costs a.question.now) a.question.now.range.low a.question.now.range.high a.question.now.low (has a.layer) (has a.above) k
+    (omega (arith, listed-length a.question.now)) (sym c.contains.ensures ∙ c.if-contains.true) q
+    (get_or-set_same a.quanta k a.question.now.range.high 0 (omega (arith, a.question.now.few)))
     (λ i d. get_or-set_other a.quanta k i a.question.now.range.high 0 d ∙ ap (λ (v : List ℕ). get_or v i 0) c.requires.1 ∙ lowest-at a.question.now a.layer a.above L a.question.now.range.low i)
     (λ p. omega (arith, is, c.if-bound-eq0.true))

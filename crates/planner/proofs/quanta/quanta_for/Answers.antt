@@ -3,8 +3,8 @@ use mathlib.Core.Path.{◌≡◌, refl, ◌∙◌}
 use mathlib.Core.List.{List}
 use Rattle.records.specs.declared.job.Job.{Job}
 use Rattle.assignment.specs.Plan.{quanta_for}
-use Rattle.planner.specs.declared.quanta.QuantaSearch.{QuantaSearch}
-use Rattle.planner.specs.declared.quanta.QuantaSearch.TheVariants.{PerJob}
+use Rattle.planner.specs.declared.question.QuantaSearch.{QuantaSearch}
+use Rattle.planner.specs.declared.question.QuantaSearch.TheVariants.{PerJob}
 use Rattle.planner.specs.Questions.{listed, finds_by}
 use Rattle.planner.proofs.quanta.quanta_for.Goals as goal
 

@@ -1,5 +1,5 @@
 use Prim.Native.Nat.{ℕ, ◌≤◌}
-use mathlib.Core.Path.{◌≡◌, sym, ap, ◌∙◌}
+use mathlib.Core.Path.{◌≡◌, refl, sym, ap, ◌∙◌}
 use mathlib.Core.List.{List}
 use native.Mathlib.Omega.{arith}
 use lib.ListN.{length, take}
@@ -9,7 +9,7 @@ use Rattle.records.specs.Limits.{most_jobs}
 use Rattle.records.specs.declared.job.Job.{Job}
 use Rattle.periods.specs.Subsets.{most_of_size}
 use Rattle.assignment.specs.Plan.{plan}
-use Rattle.planner.proofs.Answering.{plan-made, jobs-are, sound-accepted, table-sorted}
+use Rattle.planner.proofs.Answering.{plan-made, jobs-are, asks}
 use borrow.Author.Rules.{rules}
 use Rattle.planner.proofs.table.plan_jobs.Goals as goal
 use Rattle.planner.proofs.table.plan_jobs.Goals.{After-subsets_of-alone, Start}
@@ -34,16 +34,6 @@ slice_bounds-singles-end c = fits (goal.at.slice_bounds-singles-end c).After-sub
 pub slice_bounds-plan_levels-end : goal.slice_bounds-plan_levels-end
 slice_bounds-plan_levels-end c = sym (length-take-le (count (goal.at.slice_bounds-plan_levels-end c).After-subsets_of-alone) c.subsets_of-alone.result.sets (fits (goal.at.slice_bounds-plan_levels-end c).After-subsets_of-alone))
 
-pub plan_levels-progress-requires : goal.plan_levels-progress-requires
-plan_levels-progress-requires c =
-    let call = c.args.call in
-    let jobs = call.jobs.table in
-    let n = call.jobs.count in (
-      sound-accepted jobs n call.range (eight (goal.at.plan_levels-progress-requires c).Start) c.requires c.new.result c.new.ensures,
-      table-sorted jobs n call.range (eight (goal.at.plan_levels-progress-requires c).Start) c.requires c.new.result c.new.ensures
-          c.sums_of-sums.result _ c.subsets_of-alone.result c.sums_of-sums.ensures c.first_jobs-all.ensures c.subsets_of-alone.ensures (long (goal.at.plan_levels-progress-requires c).After-subsets_of-alone),
-    )
-
 pub returns : goal.returns
 returns c =
     let call = c.args.call in
@@ -51,8 +41,7 @@ returns c =
     let n = call.jobs.count in
     let r = c.plan_levels-progress.result in
     let s = (goal.at.returns c).Start in
-    let A = sound-accepted jobs n call.range (eight s) c.requires c.new.result c.new.ensures in
     let placed = c.rest.ensures ∙ ap (λ (x : ℕ). rest x r.left) c.first_jobs-all.ensures in
     ap (λ (x : ℕ). record { placed = x; considered = r.considered; settings = take n r.settings; bounds = take n r.bounds }) placed
-    ∙ plan-made c.new.result n call.range A r c.plan_levels-progress.ensures
+    ∙ plan-made (asks jobs n call.range (eight s) c.requires c.new.result c.new.ensures) refl r c.plan_levels-progress.ensures
     ∙ ap (λ (l : List Job). plan (take n l) call.range.low call.range.high) (jobs-are jobs n call.range (eight s) c.requires c.new.result c.new.ensures)
