@@ -33,6 +33,7 @@ fn mark_word(answer: Result<bool, Refusal>) -> u32
     }
 }
 
+// A function for each kind of value: a trait for the three would be longer than they are.
 fn plan_word(answer: Result<Planned, Refusal>) -> u32
     ensures { result ≡ word plan_value (plan_answer answer) }
 {

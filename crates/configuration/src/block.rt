@@ -12,7 +12,7 @@ use records::job::Job;
 use records::record;
 use records::refusal::Refusal;
 
-// The settings of a block: how many they are, and a table that is blank past them.
+// The settings of a block: how many they are, and a table that is blank past them, memory being fixed.
 #[derive(Clone, Copy)]
 pub struct SettingTable {
     pub count: usize,

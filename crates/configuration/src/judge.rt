@@ -22,7 +22,7 @@ fn is_level(n: usize, level: u8) -> bool
     level as usize <= n
 }
 
-// Whether a placed job has one of the two policies, with its quantum. No entry.
+// Whether a placed job has one of the two policies, a byte as records have it, with its quantum. No entry.
 pub fn is_scheduled(range: Range, policy: u8, quantum: u8) -> bool
     ensures { result ≡ scheduled range.low range.high policy quantum }
 {
@@ -69,7 +69,7 @@ fn on_level(settings: [Setting; Job::MOST], n: usize, level: u8) -> usize
     jobs
 }
 
-// Whether a policy 1 job is alone, and a policy 2 job is not, `jobs` being the number of jobs where it stands. No entry.
+// Whether a policy 1 job is alone, and a policy 2 job is not, whatever byte the policy is, `jobs` being the number of jobs where it stands. No entry.
 pub fn may_share(policy: u8, jobs: usize) -> bool
     ensures { result ≡ may_share policy jobs }
 {

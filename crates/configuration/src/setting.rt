@@ -10,6 +10,7 @@ use records::record::{FromRecord, ToRecord};
 pub struct Setting {
     pub id: u8,
     pub level: u8,
+    // A byte, since a block may hold any: what is asked of a policy is defined for every number.
     pub policy: u8,
     pub quantum: u8,
 }

@@ -11,7 +11,7 @@ use records::job::Job;
 use records::record;
 use records::refusal::Refusal;
 
-// The kernel records of a block: how many they are, and a table that is blank past them.
+// The kernel records of a block: how many they are, and a table that is blank past them, memory being fixed.
 #[derive(Clone, Copy)]
 pub struct KernelTable {
     pub count: usize,

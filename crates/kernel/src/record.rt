@@ -10,6 +10,7 @@ use records::record::{FromRecord, ToRecord};
 #[derive(Clone, Copy)]
 pub struct KernelRecord {
     pub id: u8,
+    // A byte, as in a setting.
     pub policy: u8,
     pub priority: KernelPriority,
     pub quantum: u8,

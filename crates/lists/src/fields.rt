@@ -125,7 +125,7 @@ impl Form {
         }
     }
 
-    // Whether field i is a policy that has its name alone.
+    // Whether field i is a policy that has its name alone; a method of its own, as the definition is.
     fn is_name_only(self, i: usize) -> bool
         ensures { result ≡ is_name_only self i }
     {

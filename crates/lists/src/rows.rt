@@ -53,7 +53,7 @@ impl Form {
         }
     }
 
-    // Whether this first word begins the last line of a key.
+    // Whether this first word begins the last line of a key; a method of its own, as the definition is.
     fn says_placed(self, word: &[u8]) -> bool
         ensures { result ≡ says_placed self word.now }
     {

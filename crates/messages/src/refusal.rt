@@ -139,7 +139,8 @@ fn put_record(
     at
 }
 
-// The refusal of this number with its reason, at the start of the output; it gives the text's length. No entry.
+// The refusal of this number with its reason, at the start of the output; it gives the text's length. The number may be any byte: the clause
+// holds for each. No entry.
 pub fn put_refusal(
     number: u8,
     naming: Naming,

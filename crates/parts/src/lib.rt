@@ -37,7 +37,8 @@ fn finish_of(job: Job, count: u32, bound: u16) -> u32
     bound as u32 + (count - 1) * (job.period as u32) - job.delay as u32
 }
 
-// The parts at the last of the first `count` instances of a job, with what its layer and the jobs above add.
+// The parts at the last of the first `count` instances of a job, with what its layer and the jobs above add; `which` is the number of the
+// bound, as the parts have it.
 fn parts_at(job: Job, count: u32, which: u8, share: u64, above: u64) -> Parts
     requires { (0 < count) × (count ≤ most_instances) × (share < 2 ^ 32) × (above < 2 ^ 32) }
     ensures { result ≡ parts_at job (count - 1) which share above }

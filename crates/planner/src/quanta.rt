@@ -95,6 +95,7 @@ fn settle(
     let job = sets::lowest(pending);
     let after = sets::remove(pending, job);
     let mut now = quanta;
+    // No count of turns is known before: each ends by an answer or raises a quantum.
     loop {
         let stood = settle(question, layer, above, after, now)?;
         now = raise(question, layer, above, stood, job)?;

@@ -22,7 +22,7 @@ pub(crate) fn count_reason(bytes: Sentence, size: u32, n: usize) -> Reason
     reason::on_whole(bytes, size, 0)
 }
 
-// What is wrong with the quantum of a placed job of this policy.
+// What is wrong with the quantum of a placed job of this policy, a byte as records have it.
 pub(crate) fn quantum_reason(at: usize, range: Range, policy: u8, quantum: u8) -> Reason
     ensures { result ≡ quantum_reason at range.low range.high policy quantum }
 {
@@ -106,7 +106,8 @@ fn setting_reason(rule: SettingRule, call: Call, settings: [Setting; Job::MOST])
     reason::unknown()
 }
 
-// Why a configuration block of `size` bytes with these settings, for a call's jobs and range, gets the refusal of this number. No entry.
+// Why a configuration block of `size` bytes with these settings, for a call's jobs and range, gets the refusal of this number, which
+// may be any byte: the clause holds for each. No entry.
 pub fn hand_in_reason(number: u8, size: u32, call: Call, settings: [Setting; Job::MOST]) -> Reason
     ensures { result ≡ hand_in_reason number size call.jobs.table settings call.jobs.count call.range.low call.range.high }
 {

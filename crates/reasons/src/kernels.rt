@@ -25,7 +25,7 @@ fn span_reason(n: usize, lowest: KernelPriority, highest: KernelPriority) -> Rea
     reason::reason_of(Sentence::FewPriorities, Job::MOST, low, high, n as u32)
 }
 
-// Why a lowest and a highest priority for n jobs get the refusal of this number. No entry.
+// Why a lowest and a highest priority for n jobs get the refusal of this number, which may be any byte: the clause holds for each. No entry.
 pub fn priorities_reason(
     number: u8,
     n: usize,
@@ -133,8 +133,8 @@ fn kernel_record_reason(
     reason::unknown()
 }
 
-// Why a kernel block of `size` bytes with these records, for a call's jobs and range and a highest priority, gets the refusal of this number.
-// No entry.
+// Why a kernel block of `size` bytes with these records, for a call's jobs and range and a highest priority, gets the refusal of this number,
+// which may be any byte: the clause holds for each. No entry.
 pub fn kernel_reason(
     number: u8,
     size: u32,

@@ -18,7 +18,8 @@ fn past_reason(limits: Limits, n: usize, high: u8) -> Reason
     reason::on_whole(Sentence::GateQuantum, high as u32, limits.quantum as u32)
 }
 
-// Why a call of n jobs and a range up to `high` gets the refusal of this number from a box with limits. No entry.
+// Why a call of n jobs and a range up to `high` gets the refusal of this number, which may be any byte, from a box with limits: the clause
+// holds for each. No entry.
 pub fn limits_reason(number: u8, limits: Limits, n: usize, high: u8) -> Reason
     ensures { result ≡ limits_reason number limits n high }
 {

@@ -89,7 +89,8 @@ fn range_reason(low: u8, high: u8) -> Reason
     reason::on_whole(Sentence::LongQuantum, high as u32, 64)
 }
 
-// Why a list of n jobs in a block of `size` bytes, and a range, get the refusal of this number. No entry.
+// Why a list of n jobs in a block of `size` bytes, and a range, get the refusal of this number, which may be any byte: the clause
+// holds for each. No entry.
 pub fn list_reason(
     number: u8,
     size: u32,

@@ -9,7 +9,8 @@ use crate::job::Job;
 use crate::refusal::Refusal;
 use crate::{judge, record};
 
-// The jobs of a block: how many they are, and a table that is blank past them.
+// The jobs of a block: how many they are, and a table that is blank past them, memory being fixed. Settings and kernel records have a table
+// of their own each: a generic struct has no array of its type parameter.
 #[derive(Clone, Copy)]
 pub struct JobTable {
     pub count: usize,

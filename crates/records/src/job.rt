@@ -45,10 +45,7 @@ impl Job {
     pub fn at_most(count: usize) -> usize
         ensures { result ≡ min count most_jobs }
     {
-        if Job::MOST < count {
-            return Job::MOST;
-        }
-        count
+        count.min(Job::MOST)
     }
 
     // Whether refusal 5 lets these numbers by. No entry.

@@ -30,6 +30,7 @@ fn job_ok(rule: JobRule, before: u8, job: Job) -> bool
     }
 }
 
+// The loop stands in each judge, since a test that is handed in may be called under a `requires` alone, which no public function has.
 // The place of the first of the first n jobs of a table of which the rule does not hold; n where it holds of each. No entry; for n past 8
 // it takes all 8 jobs.
 pub fn first_faulty(rule: JobRule, table: [Job; Job::MOST], n: usize) -> usize

@@ -5,6 +5,7 @@
 #[derive(Clone, Copy)]
 pub struct Parts {
     pub instance: u8,
+    // A number, as the record has it; of a bound of 0 it is 0.
     pub which: u8,
     pub own: u32,
     pub share: u32,

@@ -59,14 +59,6 @@ fn fault(text: &[u8]) -> Failure {
     Failure::NotAnswered
 }
 
-// That argument i is an option that there is not.
-fn unknown(rt: &impl Env, i: usize) -> Failure {
-    say::message(b"ruzhtylen: unknown option ");
-    say::argument(rt, i);
-    say::message(b"; after -- a name may begin with --\n");
-    Failure::NotAnswered
-}
-
 impl Ranged {
     fn wrong(self) -> Failure {
         match self {
@@ -173,7 +165,12 @@ impl Asked {
             Argument::Back => self.back = true,
             Argument::Bytes => self.bytes = true,
             Argument::End => self.ended = true,
-            Argument::UnknownOption => return Err(unknown(rt, i)),
+            Argument::UnknownOption => return Err(say::unknown(
+                rt,
+                i,
+                b"option",
+                b"; after -- a name may begin with --\n",
+            )),
             Argument::Name => return self.take_name(i, word),
         }
         Ok(())

@@ -102,14 +102,6 @@ fn word_at(rt: &impl Env, i: usize) -> Word {
     command::word_of(arguments::read(rt, i, &mut buffer))
 }
 
-// That argument i is no word.
-fn unknown(rt: &impl Env, i: usize) -> Failure {
-    say::message(b"ruzhtylen: unknown word ");
-    say::argument(rt, i);
-    say::message(b"; 'ruzhtylen help' lists the words\n");
-    Failure::NotAnswered
-}
-
 fn say_help(rt: &(impl Env + Print)) -> Outcome {
     let count = asked::count(rt);
     if 3 < count {
@@ -117,7 +109,7 @@ fn say_help(rt: &(impl Env + Print)) -> Outcome {
     }
     let word = word_at(rt, 2);
     if count == 3 && matches!(word, Word::Unknown) {
-        return Err(unknown(rt, 2));
+        return Err(say::unknown(rt, 2, b"word", b"; 'ruzhtylen help' lists the words\n"));
     }
     match help::help(rt, word) {
         Ok(()) => Ok(Answer::Yes),
@@ -128,7 +120,7 @@ fn say_help(rt: &(impl Env + Print)) -> Outcome {
 // Without a word all words are told.
 fn no_word(rt: &impl Env) -> Failure {
     if 1 < asked::count(rt) {
-        return unknown(rt, 1);
+        return say::unknown(rt, 1, b"word", b"; 'ruzhtylen help' lists the words\n");
     }
     say::message(help::all_words());
     Failure::NotAnswered

@@ -94,9 +94,19 @@ fn shown_name<'a>(rt: &impl Env, i: usize, buffer: &'a mut [u8]) -> &'a [u8] {
 }
 
 // Argument i, within a message, as it is shown.
-pub fn argument(rt: &impl Env, i: usize) {
+fn argument(rt: &impl Env, i: usize) {
     let mut buffer = [0u8; arguments::SIZE];
     message(shown(rt, i, &mut buffer));
+}
+
+// That argument i is none of its kind, and what to do.
+pub fn unknown(rt: &impl Env, i: usize, kind: &[u8], what_to_do: &[u8]) -> Failure {
+    message(b"ruzhtylen: unknown ");
+    message(kind);
+    message(b" ");
+    argument(rt, i);
+    message(what_to_do);
+    Failure::NotAnswered
 }
 
 // A message about the file that is argument i.

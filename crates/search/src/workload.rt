@@ -40,7 +40,7 @@ fn first_decides(unassignable: u8, layer: u8, above: u8, job: usize) -> bool
     )
 }
 
-// The lesser of two bounds, one that is 0 giving way to the other. No entry.
+// The lesser of two bounds, one that is 0 giving way to the other, since a bound of 0 is none. No entry.
 pub fn lesser(first: u16, second: u16) -> u16
     ensures { result ≡ lesser first second }
 {

@@ -75,7 +75,7 @@ fn put_key(
     writing::put_template(output, at, b"placed % of %\n", &[placed, n as u32])
 }
 
-// The line of a refused block.
+// The line of a refused block, whatever the number.
 fn put_refused(output: &mut [u8], number: u8) -> usize
     requires { 100 ≤ length output.old }
     ensures { Wrote 100 output.old output.new 0 result (refused_text number) }
@@ -83,7 +83,8 @@ fn put_refused(output: &mut [u8], number: u8) -> usize
     writing::put_template(output, 0, b"refused %\n", &[number as u32])
 }
 
-// The line of a refused block, at the start of the output; it gives the text's length. No entry.
+// The line of a refused block, at the start of the output; it gives the text's length. The number may be any byte: the clause holds for each.
+// No entry.
 pub fn refused(number: u8, output: &mut [u8; SIZE]) -> usize
     ensures { (result ≤ length output.new) × (result ≡ length (refused_text number)) × (output.new ≡ sets output.old 0 (refused_text number)) }
 {
