@@ -13,7 +13,7 @@ use std::rt::{Env, Files};
 // The bytes of the records of as many jobs as there can be.
 const SIZE: usize = KernelRecord::SIZE * Job::MOST;
 
-// Prints the kernel records in a block: its bytes, or a line per record.
+// Prints the kernel records in a block: its bytes, or a line per record, as the option has it, which both callers hand on.
 fn print_kernels(rt: &impl Print, as_bytes: bool, block: &[u8]) -> Outcome {
     if as_bytes {
         return say::print_answer(rt, Answer::Yes, block);

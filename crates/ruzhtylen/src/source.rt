@@ -92,7 +92,8 @@ impl Source {
         }
     }
 
-    // The list, the configuration or the kernel records in the file that is argument `index`.
+    // The list, the configuration or the kernel records in the file that is argument `index`; `is_block` is the option as it was given, which
+    // its callers hand on.
     pub fn load(
         rt: &(impl Env + Files + Input),
         index: usize,
