@@ -12,8 +12,8 @@ use response::parts::Parts;
 // The size of the record of a bound's parts, in bytes.
 pub const PARTS_SIZE: usize = 22;
 
-// A writer of its own: `Parts` and the record traits lie in crates below, and what the bytes of parts are is defined here.
-// Writes the first n records of a table. No entry; it judges the room alone (12), and for n past 8 it writes all 8 entries.
+// Writes the first n records of a table. No entry; it judges the room alone (12), and for n past 8 it writes all 8 entries. It is no
+// `ToRecord`, since `Parts` and the trait lie in crates below, and what the bytes of parts are is defined here.
 pub fn write_parts(parts: [Parts; Job::MOST], n: usize, output: &mut [u8]) -> Result<usize, Refusal>
     ensures { (counted result, output.new) ≡ write_records parts_size parts_bytes (take n parts) output.old }
 {

@@ -37,7 +37,7 @@ fn put_amounts(amounts: [u32; AMOUNTS], output: &mut [u8])
     }
 }
 
-// Writes the first two bytes of a record, which are numbers.
+// Writes the first two bytes of a record; which bound decided is a number there.
 fn put_head(output: &mut [u8], instance: u8, which: u8)
     requires { 2 ≤ length output.old }
     ensures { output.new ≡ (instance ∷ which ∷ []) ++ drop 2 output.old }

@@ -137,7 +137,7 @@ pub extern "C" fn ruzhtylen_breakdown(
     verdict_word(breakdown::breakdown(jobs, low, high, configuration, &mut *output))
 }
 
-// A configuration block as kernel records, in the output.
+// A configuration block as kernel records, in the output. Callers in C have a name for each way.
 #[unsafe(no_mangle)]
 pub extern "C" fn ruzhtylen_to_kernel(
     jobs: &[u8],

@@ -63,7 +63,7 @@ fn other_word(argument: &[u8]) -> Word
     Word::Unknown
 }
 
-// The word for what is asked. No entry.
+// The word for what is asked. No entry. A match on byte strings would tell the proof their lengths alone.
 #[tactic(auto, unfolding(crate::specs::Words::word_of))]
 pub fn word_of(argument: &[u8]) -> Word
     ensures { result ≡ word_of argument.now }

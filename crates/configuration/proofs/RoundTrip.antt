@@ -19,7 +19,8 @@ use Rattle.configuration.specs.declared.setting.Setting.{Setting}
 use Rattle.configuration.specs.Settings.{setting_size, setting_of, setting_bytes, settings_in, blank_setting, setting_table}
 use Rattle.configuration.specs.Configuration.{setting_tests, Configuration}
 use Rattle.configuration.specs.Blocks.{settings_of, record_tests, read_tests, read_configuration, counted_tests, write_tests, write_configuration}
-use Rattle.configuration.proofs.SettingRecords.{setting-width, settings-back, settings-again}
+use Rattle.configuration.specs.RecordLaws.{setting-width}
+use Rattle.configuration.proofs.SettingRecords.{settings-back, settings-again}
 
 module _ (jobs : List ℕ) (low high : ℕ) where
   abbrev list : List Job

@@ -5,14 +5,11 @@ use mathlib.Core.List.{List, ◌++◌}
 use native.Mathlib.Omega.{arith}
 use lib.ListN.{length, take, drop, length-drop}
 use lib.Seq.{take_all}
+use Rattle.configuration.specs.RecordLaws.{setting-width}
 use Rattle.records.specs.Records.{flat}
 use Rattle.records.proofs.FixedWidth.{spell, chunks-flat, flat-chunks}
 use Rattle.configuration.specs.declared.setting.Setting.{Setting}
 use Rattle.configuration.specs.Settings.{setting_size, setting_of, setting_bytes, settings_in}
-
-pub setting-width : (setting : Setting) → length (setting_bytes setting) ≡ setting_size
-unfolding setting_bytes
-setting-width setting = refl
 
 setting-back : (setting : Setting) (s : List ℕ) → setting_of (setting_bytes setting ++ s) ≡ setting
 unfolding setting_bytes

@@ -38,7 +38,7 @@ pub fn is_scheduled(range: Range, policy: u8, quantum: u8) -> bool
     quantum <= range.high
 }
 
-// Whether a setting has one of the three shapes, n being the number of jobs.
+// Whether a setting has one of the three shapes, n being the number of jobs, cut to 8.
 fn has_shape(n: usize, range: Range, setting: Setting) -> bool
     ensures { result ≡ shaped n range.low range.high setting }
 {
@@ -100,7 +100,7 @@ pub enum SettingRule {
     Placed,
 }
 
-// Whether the rule holds of the setting at place i.
+// Whether the rule holds of the setting at place i, n being the number of jobs, cut to 8.
 fn setting_ok(
     rule: SettingRule,
     jobs: [Job; Job::MOST],
@@ -146,7 +146,7 @@ pub(crate) fn all_ok(rule: SettingRule, call: Call, settings: [Setting; Job::MOS
     first_faulty(rule, call, settings) == Job::at_most(call.jobs.count)
 }
 
-// Judges the settings of a call's jobs: refusals 8, 9 and 10.
+// Judges the settings of a call's jobs: refusals 8, 9 and 10, which are not those of jobs.
 pub(crate) fn judge_settings(call: Call, settings: [Setting; Job::MOST]) -> Result<(), Refusal>
     ensures { verdict result ≡ answer (setting_tests (listed call.jobs) call.range.low call.range.high (take call.jobs.count settings)) tt }
 {

@@ -9,7 +9,7 @@ use records::refusal::Refusal;
 // The entries of a held table: more than a call accepts.
 pub const ROOM: usize = Job::MOST + 2;
 
-// The answer, and the table after the edit.
+// The answer, and the table after the edit, which a refusal leaves as it was and gives back too.
 #[derive(Clone, Copy)]
 pub struct Edited {
     pub answer: Result<(), Refusal>,

@@ -5,14 +5,11 @@ use mathlib.Core.List.{List, ◌++◌}
 use native.Mathlib.Omega.{arith}
 use lib.ListN.{length, take, drop, length-drop}
 use lib.Seq.{take_all}
+use Rattle.kernel.specs.RecordLaws.{kernel-width}
 use Rattle.records.specs.Records.{flat}
 use Rattle.records.proofs.FixedWidth.{spell, chunks-flat, flat-chunks}
 use Rattle.kernel.specs.declared.record.KernelRecord.{KernelRecord}
 use Rattle.kernel.specs.KernelRecords.{kernel_size, kernel_of, kernel_bytes, kernels_in}
-
-pub kernel-width : (kernel : KernelRecord) → length (kernel_bytes kernel) ≡ kernel_size
-unfolding kernel_bytes
-kernel-width kernel = refl
 
 kernel-back : (kernel : KernelRecord) (s : List ℕ) → kernel_of (kernel_bytes kernel ++ s) ≡ kernel
 unfolding kernel_bytes

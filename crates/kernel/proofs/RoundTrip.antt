@@ -21,7 +21,8 @@ use Rattle.configuration.specs.declared.setting.Setting.{Setting}
 use Rattle.configuration.specs.Settings.{setting_size, setting_of, setting_bytes, settings_in}
 use Rattle.configuration.specs.Configuration.{full, full_tests, Configuration, setting_tests}
 use Rattle.configuration.specs.Blocks.{settings_of, record_tests, hand_in_tests}
-use Rattle.configuration.proofs.SettingRecords.{setting-width, settings-back, settings-again}
+use Rattle.configuration.specs.RecordLaws.{setting-width}
+use Rattle.configuration.proofs.SettingRecords.{settings-back, settings-again}
 use Rattle.kernel.specs.declared.priority.KernelPriority.{KernelPriority}
 use Rattle.kernel.specs.declared.record.KernelRecord.{KernelRecord}
 use Rattle.kernel.specs.Priorities.{priority_tests}
@@ -30,7 +31,8 @@ use Rattle.kernel.specs.KernelConfiguration.{kernel_tests, KernelConfiguration}
 use Rattle.kernel.specs.Conversions.{loader_tests, kernels_for, kernel_block_tests, kernels_of, settings_back, to_kernel_tests, to_kernel_outcome, from_kernel_tests, from_kernel_outcome}
 use Rattle.kernel.specs.Promises.{SameLayers, begun, ThereAndBack, BackAndThere, ToKernelPromise, FromKernelPromise}
 use Rattle.kernel.proofs.Tops.{priorities-fit}
-use Rattle.kernel.proofs.KernelRecords.{kernel-width, kernels-back, kernels-again}
+use Rattle.kernel.specs.RecordLaws.{kernel-width}
+use Rattle.kernel.proofs.KernelRecords.{kernels-back, kernels-again}
 use Rattle.kernel.proofs.Converted.{there-accepted, there_and_back, there-layers, back-accepted, back_full, back-and-there, back-layers}
 
 module _ (jobs : List ℕ) (low high : ℕ) (lowest highest : KernelPriority) where

@@ -50,8 +50,8 @@ pub fn to_kernel_records(
     kernels
 }
 
-// A loop of its own, as a trait for the two ways would be longer than both.
-// The settings of the first n kernel records of a table, which are not judged. No entry; for n past 8 it takes all 8 records.
+// The settings of the first n kernel records of a table, which are not judged. No entry; for n past 8 it takes all 8 records. Its loop is its own: a
+// trait for the two ways would be longer.
 pub fn to_settings(
     kernels: [KernelRecord; Job::MOST],
     n: usize,

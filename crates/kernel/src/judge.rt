@@ -81,7 +81,7 @@ pub enum KernelRule {
     Sharing,
 }
 
-// Whether the rule holds of the record at place i.
+// Whether the rule holds of the record at place i, n being the number of jobs, cut to 8.
 fn kernel_ok(
     rule: KernelRule,
     jobs: [Job; Job::MOST],

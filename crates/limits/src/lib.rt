@@ -31,7 +31,7 @@ impl Limits {
         quantum: 16,
     };
 
-    // The limits of the start gate, or of the mats. No entry.
+    // The limits of the start gate, or of the mats, as the command's option has it. No entry.
     pub fn of_box(gate: bool) -> Limits
         ensures { result ≡ box_limits gate }
     {

@@ -16,12 +16,12 @@ use Rattle.records.specs.Jobs.{job_size, job_bytes, bytes_of}
 use Rattle.records.specs.declared.job.Job.{Job}
 use Rattle.records.specs.declared.refusal.Refusal.{Refusal}
 use Rattle.records.proofs.FixedWidth.{length-flat}
-use Rattle.records.proofs.JobRecords.{job-width}
+use Rattle.records.specs.RecordLaws.{job-width}
 use Rattle.configuration.specs.Settings.{setting_size, setting_bytes}
-use Rattle.configuration.proofs.SettingRecords.{setting-width}
+use Rattle.configuration.specs.RecordLaws.{setting-width}
 use Rattle.configuration.specs.declared.setting.Setting.{Setting}
 use Rattle.kernel.specs.KernelRecords.{kernel_size, kernel_bytes}
-use Rattle.kernel.proofs.KernelRecords.{kernel-width}
+use Rattle.kernel.specs.RecordLaws.{kernel-width}
 use Rattle.kernel.specs.declared.record.KernelRecord.{KernelRecord}
 use Rattle.lists.specs.declared.fields.Form.{Form}
 use Rattle.lists.specs.declared.fields.Form.TheVariants.{Job as JobForm, Setting as SettingForm, Kernel as KernelForm, Quanta}

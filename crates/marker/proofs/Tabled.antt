@@ -1,7 +1,9 @@
 -- What writing the bounds of tables of jobs and settings comes to. Assumes nothing.
-use Prim.Native.Nat.{ℕ, ◌*◌, min}
+use Prim.Native.Nat.{ℕ, ◌*◌, min, ◌<◌}
 use mathlib.Core.Path.{◌≡◌, ap, ◌∙◌}
 use mathlib.Core.List.{List}
+use native.Mathlib.Omega.{arith}
+use borrow.Author.Tests.{lt-leb}
 use lib.Dec.{ltb}
 use lib.ListN.{length, get_or, take}
 use Rattle.std.specs.Prelude.{Result, Ok, Err}
@@ -17,6 +19,14 @@ use Rattle.configuration.specs.declared.setting.Setting.{Setting}
 use Rattle.marker.specs.Bounds.{bound_at, bounds_of, all_served}
 use Rattle.marker.specs.Marks.{bound_size, marked, put_bounds}
 use Rattle.marker.proofs.Configured.{served-table}
+
+-- An output without room for the bounds of the first n jobs.
+pub bounds-refused : (jobs : List Job) (settings : List Setting) (n count : ℕ) → length jobs ≡ most_jobs → count ≡ min n most_jobs → (output : List ℕ) → length output < bound_size * count
+    → (refused 12, output) ≡ put_bounds (take n jobs) (take n settings) output
+unfolding put_bounds
+bounds-refused jobs settings n count jobs-size cut output h =
+    let need : bound_size * length (take n jobs) ≡ bound_size * count = ap (λ (m : ℕ). bound_size * m) (cut-length jobs most_jobs n count jobs-size cut) in
+    simp (lt-leb (bound_size * length (take n jobs)) (length output) (omega (arith, need)))
 
 -- Tables of 8 entries, a count that is cut to 8, and the bounds of the first n jobs.
 module _ (jobs : List Job) (settings : List Setting) (n count : ℕ) (jobs-size : length jobs ≡ most_jobs) (cut : count ≡ min n most_jobs) (bounds : List ℕ)

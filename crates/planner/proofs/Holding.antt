@@ -24,7 +24,7 @@ use Rattle.configuration.specs.declared.setting.Setting.{Setting}
 use Rattle.configuration.specs.Settings.{setting_size, setting_bytes, setting_table}
 use Rattle.configuration.specs.Configuration.{is_placed, full, full_tests}
 use Rattle.configuration.specs.Blocks.{settings_of, record_tests, hand_in_tests}
-use Rattle.configuration.proofs.SettingRecords.{setting-width}
+use Rattle.configuration.specs.RecordLaws.{setting-width}
 use Rattle.configuration.proofs.RoundTrip.{settings-read, configuration-block, read-bytes}
 use Rattle.configuration.proofs.HandIns.{full-accepted}
 use Rattle.marker.specs.Marks.{bound_size, bounds_in, marked, bounds_room, bounds_tests, bounds_outcome, mark_outcome}

@@ -38,7 +38,7 @@ pub(crate) fn quantum_reason(at: usize, range: Range, policy: u8, quantum: u8) -
     )
 }
 
-// What is wrong with the shape of a setting: its policy, else its level, else its quantum.
+// What is wrong with the shape of a setting: its policy, else its level, else its quantum. The number of jobs, n, is cut to 8.
 fn shape_reason(at: usize, n: usize, range: Range, setting: Setting) -> Reason
     requires { n ≤ most_jobs }
     ensures { result ≡ shape_reason at n range.low range.high setting }
@@ -69,6 +69,7 @@ fn sharing_reason(at: usize, setting: Setting) -> Reason
     reason::reason_of(Sentence::Alone, at, setting.level as u32, 0, 0)
 }
 
+// What is said of a setting; the number of jobs, n, is cut to 8.
 fn setting_reason_at(
     rule: SettingRule,
     at: usize,

@@ -91,6 +91,7 @@ fn kernel_sharing_reason(at: usize, kernel: KernelRecord) -> Reason
     reason::reason_of(Sentence::AlonePriority, at, priority.0 as u32, 0, 0)
 }
 
+// What is said of a kernel record; the number of jobs, n, is cut to 8.
 fn kernel_record_reason_at(
     rule: KernelRule,
     at: usize,

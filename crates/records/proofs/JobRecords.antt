@@ -10,10 +10,6 @@ use Rattle.records.specs.Jobs.{job_size, job_of, job_bytes}
 use Rattle.records.specs.declared.job.Job.{Job}
 use Rattle.records.proofs.FixedWidth.{word_back, word-high, word_low, spell}
 
-pub job-width : (job : Job) → length (job_bytes job) ≡ job_size
-unfolding job_bytes word_bytes
-job-width job = refl
-
 -- What was written is read back.
 pub job-back : (job : Job) (s : List ℕ) → job_of (job_bytes job ++ s) ≡ job
 unfolding job_of job_bytes word_bytes

@@ -14,7 +14,8 @@ use Rattle.records.specs.Jobs.{job_size, job_of, job_bytes, blank_job, job_tests
 use Rattle.records.specs.declared.job.Job.{Job}
 use Rattle.records.proofs.Outcomes.{accepts, accepts-both, accepts-first}
 use Rattle.records.proofs.FixedWidth.{length-flat, length-chunks, take-table, chunks-flat, flat-chunks}
-use Rattle.records.proofs.JobRecords.{job-width, job-back, Known, job-again}
+use Rattle.records.specs.RecordLaws.{job-width}
+use Rattle.records.proofs.JobRecords.{job-back, Known, job-again}
 use Rattle.records.proofs.JobTests.{accepted-take, tests-table}
 
 -- The bytes of an accepted list of jobs are accepted, and read back to it.

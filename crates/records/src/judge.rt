@@ -30,9 +30,9 @@ fn job_ok(rule: JobRule, before: u8, job: Job) -> bool
     }
 }
 
-// The loop stands in each judge, since a test that is handed in may be called under a `requires` alone, which no public function has.
 // The place of the first of the first n jobs of a table of which the rule does not hold; n where it holds of each. No entry; for n past 8
-// it takes all 8 jobs.
+// it takes all 8 jobs. Each judge has such a loop: a test that is handed in may be called under a `requires` alone, which no public function
+// has.
 pub fn first_faulty(rule: JobRule, table: [Job; Job::MOST], n: usize) -> usize
     ensures { result ≡ failing (job_ok_at rule table) (min n most_jobs) }
 {
@@ -56,7 +56,7 @@ fn all_ok(rule: JobRule, table: [Job; Job::MOST], n: usize) -> bool
     first_faulty(rule, table, n) == n
 }
 
-// Judges the first n jobs of a table: refusals 2, 3 and 5.
+// Judges the first n jobs of a table: refusals 2, 3 and 5, which are those of jobs alone.
 pub(crate) fn judge_jobs(table: [Job; Job::MOST], n: usize) -> Result<(), Refusal>
     requires { n ≤ most_jobs }
     ensures { verdict result ≡ answer (job_tests n table) tt }

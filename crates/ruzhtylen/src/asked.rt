@@ -71,6 +71,7 @@ impl Ranged {
         }
     }
 
+    // What follows is texts, a function for each.
     fn twice(self) -> Failure {
         match self {
             Ranged::Quanta => fault(b"--quanta is given twice\n"),

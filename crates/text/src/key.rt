@@ -30,7 +30,7 @@ fn put_job(output: &mut [u8], at: usize, setting: Setting, bound: u16) -> usize
     )
 }
 
-// The lines of n jobs, from the start of the output on.
+// The lines of n jobs, from the start of the output on; a loop of its own, as a clause on a closure that writes is longer.
 fn put_jobs(
     output: &mut [u8],
     settings: [Setting; Job::MOST],
@@ -91,7 +91,7 @@ pub fn refused(number: u8, output: &mut [u8; SIZE]) -> usize
     put_refused(output, number)
 }
 
-// The answer beside a key, and the key's length.
+// The answer beside a key, and the key's length in memory that is lent: a refusal has a text too.
 #[derive(Clone, Copy)]
 pub struct Keyed {
     pub answer: Result<bool, Refusal>,

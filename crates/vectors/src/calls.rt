@@ -171,6 +171,7 @@ pub fn key(rt: &impl Print, jobs: &[u8], low: u8, high: u8) {
     reply::write(rt, Ok([]), &[&output[..length]]);
 }
 
+// Each of the two kernel entries has a function, as its frames have a number.
 pub fn to_kernel(
     rt: &impl Print,
     jobs: &[u8],
