@@ -1,5 +1,5 @@
 -- Records of four bytes as numbers: equal numbers are exactly equal bytes, and differences of numbers gathered bit by bit. Assumes nothing.
-use Prim.Native.Nat.{ℕ, zero, suc, ◌+◌, ◌<◌}
+use Prim.Native.Nat.{ℕ, zero, suc, ◌+◌, ◌-◌, ◌≤◌, ◌<◌}
 use mathlib.Core.Path.{◌≡◌, refl, sym, ap, ap₂, subst, ◌∙◌}
 use mathlib.Core.Bool.{Bool, ◌&&◌, and_assoc}
 use mathlib.Core.List.{List, ◌++◌}
@@ -12,9 +12,9 @@ use lib.ListN.{length, get_or, take}
 use lib.Seq.{ext_get_or, get_or-drop, take-append_seam, drop-append_seam}
 use borrow.Author.Tests.{eq-eqb, ne_eqb}
 use Rattle.records.specs.Records.{AllBytes}
-use Rattle.same_bytes.specs.Same.{same_bytes, record_size, number_of}
+use Rattle.same_bytes.specs.Same.{same_bytes, same_between, record_size, number_of}
 use Rattle.same_bytes.proofs.Equality.{same-exactly, not_same, same-split}
-use Rattle.same_bytes.proofs.Parts.{part, part_bytes}
+use Rattle.same_bytes.proofs.Parts.{part, part_length, part_bytes, between_split, between-part}
 
 module _ (x y : List ℕ) (length-x : length x ≡ record_size) (length-y : length y ≡ record_size) (bytes-x : AllBytes x) (bytes-y : AllBytes y) where
   -- Two records have one number exactly if they are the same bytes.
@@ -54,9 +54,19 @@ gathered d m n = elim (ℕ_discrete d 0) [
 ]
 
 -- Gathering: one record on.
-pub gather-next : (x y xs ys : List ℕ) (differences m n : ℕ) → length x ≡ record_size → length y ≡ record_size → AllBytes x → AllBytes y → m ≡ number_of x → n ≡ number_of y
+pub gather-next : (a b : List ℕ) (i differences m n : ℕ) → AllBytes a → AllBytes b → i + record_size ≤ length a → i + record_size ≤ length b
+    → m ≡ number_of (part i (i + record_size) a) → n ≡ number_of (part i (i + record_size) b)
+    → eqb differences 0 ≡ same_between a b 0 i → eqb (bit_or differences (bit_xor m n)) 0 ≡ same_between a b 0 (i + record_size)
+gather-next a b i d m n ba bb la lb em en e =
+    let end : ℕ = i + record_size in
+    let wide : end - i ≡ record_size = omega arith in
+    let next = number_same (part i end a) (part i end b) (part_length i end a la ∙ wide) (part_length i end b lb ∙ wide) (part_bytes i end a ba) (part_bytes i end b bb) in
+    gathered d m n ∙ ap₂ ◌&&◌ e (ap₂ eqb em en ∙ next ∙ between-part a b i end la lb) ∙ sym (between_split a b 0 i end (omega arith) (omega arith))
+
+-- The same, of the records that are left.
+pub gather-on : (x y xs ys : List ℕ) (differences m n : ℕ) → length x ≡ record_size → length y ≡ record_size → AllBytes x → AllBytes y → m ≡ number_of x → n ≡ number_of y
     → eqb differences 0 && same_bytes (x ++ xs) (y ++ ys) ≡ eqb (bit_or differences (bit_xor m n)) 0 && same_bytes xs ys
-gather-next x y xs ys d m n lx ly bx by em en =
+gather-on x y xs ys d m n lx ly bx by em en =
     ap (λ (t : Bool). eqb d 0 && t) (same-split x y xs ys (lx ∙ sym ly) ∙ ap (λ (t : Bool). t && same_bytes xs ys) (sym (ap₂ eqb em en ∙ number_same x y lx ly bx by)))
     ∙ sym (and_assoc (eqb d 0) (eqb m n) (same_bytes xs ys))
     ∙ ap (λ (t : Bool). t && same_bytes xs ys) (sym (gathered d m n))

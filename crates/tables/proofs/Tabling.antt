@@ -20,23 +20,23 @@ end-apart : (word : List ℕ) (rest : List (List ℕ)) → word ++ line_text [] 
 end-apart word [] = refl
 end-apart word (next ∷ rest) = refl
 
--- The line of a job is its four numbers and the end with its delay.
-pub job-line : (job : Job) → filled (37 ∷ 32 ∷ 37 ∷ 32 ∷ 37 ∷ 32 ∷ 37 ∷ []) (job.id ∷ job.cost ∷ job.period ∷ job.deadline ∷ []) ++ line_text [] (delay_words job.delay) ≡ job_text job
+-- The line of a job is its four numbers and the end with its delay. More numbers than a template takes change nothing, here and below.
+pub job-line : (job : Job) (more : List ℕ) → filled (37 ∷ 32 ∷ 37 ∷ 32 ∷ 37 ∷ 32 ∷ 37 ∷ []) (job.id ∷ job.cost ∷ job.period ∷ job.deadline ∷ more) ++ line_text [] (delay_words job.delay) ≡ job_text job
 unfolding filled
-job-line job =
+job-line job more =
     simp append_assoc
     (ap (λ (end : List ℕ). decimal job.id ++ (space ∷ (decimal job.cost ++ (space ∷ (decimal job.period ++ (space ∷ end)))))) (end-apart (decimal job.deadline) (delay_words job.delay)))
 
 -- The line of a setting, and of a kernel record, is what stands before its policy, the policy's word and what stands after it.
-pub setting-line : (setting : Setting) → filled (37 ∷ 32 ∷ 37 ∷ 32 ∷ []) (setting.id ∷ setting.level ∷ []) ++ (policy_word setting.policy ++ filled (32 ∷ 37 ∷ 10 ∷ []) (setting.quantum ∷ []))
+pub setting-line : (setting : Setting) (more further : List ℕ) → filled (37 ∷ 32 ∷ 37 ∷ 32 ∷ []) (setting.id ∷ setting.level ∷ more) ++ (policy_word setting.policy ++ filled (32 ∷ 37 ∷ 10 ∷ []) (setting.quantum ∷ further))
     ≡ setting_text setting
 unfolding filled
-setting-line setting = simp append_assoc
+setting-line setting more further = simp append_assoc
 
-pub kernel-line : (kernel : KernelRecord) → filled (37 ∷ 32 ∷ []) (kernel.id ∷ []) ++ (policy_word kernel.policy ++ filled (32 ∷ 37 ∷ 32 ∷ 37 ∷ 10 ∷ []) (kernel.priority.0 ∷ kernel.quantum ∷ []))
+pub kernel-line : (kernel : KernelRecord) (more further : List ℕ) → filled (37 ∷ 32 ∷ []) (kernel.id ∷ more) ++ (policy_word kernel.policy ++ filled (32 ∷ 37 ∷ 32 ∷ 37 ∷ 10 ∷ []) (kernel.priority.0 ∷ kernel.quantum ∷ further))
     ≡ kernel_text kernel
 unfolding filled
-kernel-line kernel = simp append_assoc
+kernel-line kernel more further = simp append_assoc
 
 -- A policy that has no name has its number.
 pub policy-number : (policy : ℕ) → (policy ≡ 0 → ⊥) → (policy ≡ 1 → ⊥) → (policy ≡ 2 → ⊥) → decimal policy ≡ policy_word policy

@@ -12,7 +12,7 @@ use Rattle.records.specs.Records.{AllBytes}
 use Rattle.same_bytes.specs.Same.{same_bytes, record_size}
 use Rattle.same_bytes.proofs.Equality.{same-exactly}
 use Rattle.same_bytes.proofs.Parts.{parts-next, no-parts}
-use Rattle.same_bytes.proofs.RecordNumbers.{gather-next, next-bytes}
+use Rattle.same_bytes.proofs.RecordNumbers.{gather-on, next-bytes}
 use Rattle.same_bytes.proofs.same_records.Goals as goal
 
 pub loop-x-preserved : goal.loop-x-preserved
@@ -37,7 +37,7 @@ loop-x-preserved c =
       bytes-x.1,
       bytes-y.1,
       i.6 ∙ ap₂ (λ (r s : List ℕ). eqb c.loop-x.differences 0 && same_bytes r s) a.1.0 b.1.0
-          ∙ gather-next x y xs ys c.loop-x.differences _ _ long-x long-y bytes-x.0 bytes-y.0 c.number_of.ensures c.number_of-in-loop-x.ensures,
+          ∙ gather-on x y xs ys c.loop-x.differences _ _ long-x long-y bytes-x.0 bytes-y.0 c.number_of.ensures c.number_of-in-loop-x.ensures,
     )
 
 pub returns : goal.returns
