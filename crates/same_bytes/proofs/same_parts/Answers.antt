@@ -10,7 +10,7 @@ use Rattle.std.specs.Iterator.Adapters.{zip_first, zip_second}
 use Rattle.std.specs.Slice.Iter.{chunks_exact_rest}
 use Rattle.same_bytes.specs.Same.{same_bytes, same_between}
 use Rattle.same_bytes.proofs.Equality.{same-exactly, same-split}
-use Rattle.same_bytes.proofs.Parts.{part, part_length, whole-parts, parts-next, no-parts, between-part}
+use Rattle.same_bytes.proofs.Parts.{part, part_length, whole-parts, parts-next, no-parts, between_none, between-part}
 use borrow.Author.Rules.{rules}
 use Rattle.same_bytes.proofs.same_parts.Goals as goal
 use Rattle.same_bytes.proofs.same_parts.Goals.{In-Some, After-same_records}
@@ -28,6 +28,11 @@ split c same e =
     let ys = chunks_exact_rest (zip_second c.next.new.self) in
     c.loop-x.invariant.4 ∙ ap₂ same_bytes c.in-Some.ensures.steps.0.1.0 c.in-Some.ensures.steps.1.1.0
     ∙ same-split c.in-Some.x.now c.in-Some.y.now xs ys (size.0 ∙ sym size.1) ∙ ap (λ (t : Bool). t && same_bytes xs ys) (sym c.same_records.ensures ∙ e)
+
+pub returns-then-from-end : goal.returns-then-from-end
+returns-then-from-end c =
+    let a = c.args in
+    sym (sym (ap (same_between a.a.now a.b.now a.from) (search rules)) ∙ between_none a.a.now a.b.now a.from)
 
 pub loop-x-init : goal.loop-x-init
 loop-x-init c =
