@@ -13,22 +13,32 @@ fn print_key(rt: &impl Print, low: u8, high: u8, block: &[u8]) {
     let _ = rt.write_all(&output[..length]);
 }
 
+// Reads as much of the input as a buffer holds: of a block that the input cuts short, what there is counts.
+fn read_block<'a>(input: &mut impl Read, buffer: &'a mut [u8]) -> &'a [u8] {
+    let size = buffer.len();
+    let mut rest = &mut buffer[..];
+    // A read that is not the last one gives a byte or more.
+    for _ in 0..size {
+        match input.read(rest) {
+            Ok(0) | Err(_) => break,
+            Ok(count) => rest = &mut rest[count..],
+        }
+        if rest.is_empty() {
+            break;
+        }
+    }
+    let left = rest.len();
+    &buffer[..size.saturating_sub(left)]
+}
+
 // Prints the key of the block that comes next, with its three numbers before it. An error is the end of the input.
 fn print_next(rt: &impl Print, input: &mut impl Read) -> io::Result<()> {
     let mut header = [0u8; 3];
     input.read_exact(&mut header)?;
     let [low, high, size] = header;
     let mut buffer = [0u8; 255];
-    let mut rest = &mut buffer[..usize::from(size)];
-    // Of a block that the input cuts short, what there is counts.
-    let _ = io::copy(&mut input.take(u64::from(size)), &mut rest);
-    let left = rest.len();
-    print_key(
-        rt,
-        low,
-        high,
-        &buffer[..usize::from(size).saturating_sub(left)],
-    );
+    let block = read_block(input, &mut buffer[..usize::from(size)]);
+    print_key(rt, low, high, block);
     Ok(())
 }
 
