@@ -15,13 +15,6 @@ fn put_number(rt: &impl Print, number: u16) {
     put(rt, &number.to_be_bytes());
 }
 
-fn put_numbers(rt: &impl Print, numbers: &[u16]) {
-    put(rt, &[(numbers.len() % 256) as u8]);
-    for number in numbers {
-        put_number(rt, *number);
-    }
-}
-
 fn put_blocks(rt: &impl Print, blocks: &[&[u8]]) {
     put(rt, &[(blocks.len() % 256) as u8]);
     for block in blocks {
@@ -40,8 +33,10 @@ fn size_of(numbers: &[u16], blocks: &[&[u8]]) -> u16 {
 
 fn write_frame(rt: &impl Print, refusal: u8, numbers: &[u16], blocks: &[&[u8]]) {
     put_number(rt, size_of(numbers, blocks));
-    put(rt, &[refusal]);
-    put_numbers(rt, numbers);
+    put(rt, &[refusal, (numbers.len() % 256) as u8]);
+    for number in numbers {
+        put_number(rt, *number);
+    }
     put_blocks(rt, blocks);
 }
 
