@@ -5,37 +5,42 @@
 use desk::held::ROOM;
 use records::job::Job;
 use records::refusal::Refusal;
-use std::io;
 
-fn print_job(rt: &impl Print, job: Job) -> io::Result<()> {
-    println!(rt;
-        "{} {} {} {} {}",
-        job.id, job.cost, job.period, job.deadline, job.delay
-    )
+// A piece that cannot be written has nobody to be told to, and the next one is tried all the same.
+fn put(rt: &impl Print, text: &[u8]) {
+    let _ = rt.write_all(text);
 }
 
-fn print_answer(rt: &impl Print, answer: Result<(), Refusal>) -> io::Result<()> {
+fn print_number(rt: &impl Print, number: u16, end: &[u8]) {
+    let _ = print!(rt; "{number}");
+    put(rt, end);
+}
+
+fn print_job(rt: &impl Print, job: Job) {
+    print_number(rt, u16::from(job.id), b" ");
+    print_number(rt, job.cost, b" ");
+    print_number(rt, job.period, b" ");
+    print_number(rt, job.deadline, b" ");
+    print_number(rt, u16::from(job.delay), b"\n");
+}
+
+fn print_answer(rt: &impl Print, answer: Result<(), Refusal>) {
     match answer {
-        Ok(()) => println!(rt; "done"),
-        Err(refusal) => println!(rt; "refused {}", refusal.number()),
+        Ok(()) => put(rt, b"done\n"),
+        Err(refusal) => {
+            put(rt, b"refused ");
+            print_number(rt, u16::from(refusal.number()), b"\n");
+        }
     }
 }
 
 // Prints what an edit of the first n jobs answers, and the first three jobs after it.
-fn print_edit(
-    rt: &impl Print,
-    n: usize,
-    place: usize,
-    cost: u16,
-    period: u16,
-    deadline: u16,
-) -> io::Result<()> {
+fn print_edit(rt: &impl Print, n: usize, place: usize, cost: u16, period: u16, deadline: u16) {
     let edited = desk::held::edit_held(table(), n, place, cost, period, deadline);
-    print_answer(rt, edited.answer)?;
+    print_answer(rt, edited.answer);
     for job in &edited.jobs[..3] {
-        print_job(rt, *job)?;
+        print_job(rt, *job);
     }
-    Ok(())
 }
 
 // Two jobs, and an entry with id 0 and cost 0 between them.
@@ -65,21 +70,17 @@ fn table() -> [Job; ROOM] {
     jobs
 }
 
-fn print_edits(rt: &impl Print) -> io::Result<()> {
-    print_edit(rt, 3, 2, 3, 12, 10)?;
-    print_edit(rt, 0, 0, 3, 12, 10)?;
-    print_edit(rt, 9, 0, 3, 12, 10)?;
-    print_edit(rt, 3, 3, 3, 12, 10)?;
-    print_edit(rt, 3, 0, 0, 12, 10)?;
-    print_edit(rt, 3, 0, 11, 12, 10)?;
-    print_edit(rt, 3, 0, 3, 9, 10)?;
-    print_edit(rt, 3, 0, 10, 9, 10)?;
-    print_edit(rt, 3, 0, 3, 60001, 10)?;
-    print_edit(rt, 3, 0, 3, 9, 60001)?;
-    print_edit(rt, 8, 0, 60000, 60000, 60000)
-}
-
+// The status is 0 also where standard output cannot be written.
 fn main(rt: HostRuntime) {
-    // The status is 0 also where standard output cannot be written.
-    let _ = print_edits(&rt);
+    print_edit(&rt, 3, 2, 3, 12, 10);
+    print_edit(&rt, 0, 0, 3, 12, 10);
+    print_edit(&rt, 9, 0, 3, 12, 10);
+    print_edit(&rt, 3, 3, 3, 12, 10);
+    print_edit(&rt, 3, 0, 0, 12, 10);
+    print_edit(&rt, 3, 0, 11, 12, 10);
+    print_edit(&rt, 3, 0, 3, 9, 10);
+    print_edit(&rt, 3, 0, 10, 9, 10);
+    print_edit(&rt, 3, 0, 3, 60001, 10);
+    print_edit(&rt, 3, 0, 3, 9, 60001);
+    print_edit(&rt, 8, 0, 60000, 60000, 60000);
 }
