@@ -141,5 +141,8 @@ pub fn help(rt: &impl Print, word: Word) -> Result<()> {
         Word::Help | Word::Unknown => (all_words(), b""),
     };
     let first = rt.write_all(text);
+    if more.is_empty() {
+        return first;
+    }
     rt.write_all(more).and(first)
 }
