@@ -169,7 +169,7 @@ impl Asked {
             Argument::UnknownOption => return Err(say::unknown(
                 rt,
                 i,
-                b"option",
+                b"ruzhtylen: unknown option ",
                 b"; after -- a name may begin with --\n",
             )),
             Argument::Name => return self.take_name(i, word),

@@ -102,6 +102,16 @@ fn word_at(rt: &impl Env, i: usize) -> Word {
     command::word_of(arguments::read(rt, i, &mut buffer))
 }
 
+// Says that argument i is no word.
+fn unknown_word(rt: &impl Env, i: usize) -> Failure {
+    say::unknown(
+        rt,
+        i,
+        b"ruzhtylen: unknown word ",
+        b"; 'ruzhtylen help' lists the words\n",
+    )
+}
+
 fn say_help(rt: &(impl Env + Print)) -> Outcome {
     let count = asked::count(rt);
     if 3 < count {
@@ -109,7 +119,7 @@ fn say_help(rt: &(impl Env + Print)) -> Outcome {
     }
     let word = word_at(rt, 2);
     if count == 3 && matches!(word, Word::Unknown) {
-        return Err(say::unknown(rt, 2, b"word", b"; 'ruzhtylen help' lists the words\n"));
+        return Err(unknown_word(rt, 2));
     }
     match help::help(rt, word) {
         Ok(()) => Ok(Answer::Yes),
@@ -120,7 +130,7 @@ fn say_help(rt: &(impl Env + Print)) -> Outcome {
 // Without a word all words are told.
 fn no_word(rt: &impl Env) -> Failure {
     if 1 < asked::count(rt) {
-        return say::unknown(rt, 1, b"word", b"; 'ruzhtylen help' lists the words\n");
+        return unknown_word(rt, 1);
     }
     say::message(help::all_words());
     Failure::NotAnswered

@@ -99,11 +99,9 @@ fn argument(rt: &impl Env, i: usize) {
     message(shown(rt, i, &mut buffer));
 }
 
-// That argument i is none of its kind, and what to do.
-pub fn unknown(rt: &impl Env, i: usize, kind: &[u8], what_to_do: &[u8]) -> Failure {
-    message(b"ruzhtylen: unknown ");
-    message(kind);
-    message(b" ");
+// A message that ends in argument i and in what to do: what comes before the argument is one write.
+pub fn unknown(rt: &impl Env, i: usize, what: &[u8], what_to_do: &[u8]) -> Failure {
+    message(what);
     argument(rt, i);
     message(what_to_do);
     Failure::NotAnswered
