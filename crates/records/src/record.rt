@@ -9,7 +9,7 @@ ghost use Rattle.records.specs.RecordLaws.{word-width};
 use crate::job::Job;
 use crate::refusal::Refusal;
 
-// A kind of record that is written, SIZE bytes long.
+// A kind of record that is written, SIZE bytes long. No entry; it judges nothing.
 pub trait ToRecord<const SIZE: usize>: Copy {
     // The bytes of a record.
     ghost bytes: { Self → List ℕ };
@@ -22,7 +22,7 @@ pub trait ToRecord<const SIZE: usize>: Copy {
     ghost width: { (self : Self) → length (bytes self) ≡ SIZE };
 }
 
-// A kind of record that is read, SIZE bytes long.
+// A kind of record that is read, SIZE bytes long. No entry; it judges nothing.
 pub trait FromRecord<const SIZE: usize>: Copy {
     // The record that a block begins with, and what stands in a table where there is none.
     ghost read: { List ℕ → Self };
