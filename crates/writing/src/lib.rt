@@ -9,6 +9,9 @@ ghost use Rattle.writing.specs.Templates.{piece, used_after, filled, after_lines
 use lists::words;
 use lists::words::Mark;
 
+// The most numbers that a template of this repository takes, for a caller that keeps them in an array; a slice may have any number of them.
+pub const MOST: usize = 8;
+
 // The last decimal digit of n.
 fn last_digit(n: u32) -> u8
     ensures { result ≡ digit (n % 10) }
