@@ -169,7 +169,7 @@ fn mark_size(text: &[u8]) -> usize
     }
 }
 
-// Reads a text of rows. No entry; it judges the form of each line alone.
+// Reads a text of rows. No entry; it judges the form of each line, and that there are at most eight rows and one range.
 pub fn read_rows(form: Form, text: &[u8]) -> Result<RowsRead, FaultyLine>
     ensures { rows_outcome result ≡ read_text form text.now }
 {

@@ -14,7 +14,7 @@ use kernel::priority::KernelPriority;
 use kernel::record::KernelRecord;
 use records::job::Job;
 
-// What a row stands for.
+// What a row stands for. No entry; it judges nothing.
 pub trait FromRow: Copy {
     ghost BLANK: { Self };
 

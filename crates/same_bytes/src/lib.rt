@@ -44,7 +44,7 @@ fn same_parts(a: &[u8], b: &[u8], from: usize, end: usize, size: usize) -> bool
     requires { PartSize size × InParts size from end a.now b.now }
     ensures { result ≡ same_between a.now b.now from end }
 {
-    // Most blocks have no part of some size, and this question is cheaper than two iterators over nothing.
+    // A block of a few records has no part of some size, and this question is cheaper than two iterators over nothing.
     if from == end {
         return true;
     }
@@ -86,7 +86,7 @@ pub fn same_bytes(a: &[u8], b: &[u8]) -> bool
     if !same_parts(a, b, short, records, RECORD_SIZE) {
         return false;
     }
-    // Blocks of whole records, as the product's are, have no bytes left.
+    // Blocks of jobs, of a configuration and of kernel records leave no bytes.
     if records == length {
         return true;
     }
