@@ -7,7 +7,7 @@ ghost use Rattle.same_bytes.specs.Same.{same_bytes, same_between, record_size, r
 const RECORD_SIZE: usize = 4;
 
 // The sizes of parts. Within a part the test goes on past a difference, so that the compiler takes several records at once.
-const LONG_PART: usize = 128;
+const LONG_PART: usize = 64;
 
 const SHORT_PART: usize = 16;
 
